@@ -9,7 +9,7 @@ pub const RISCV_PAGESIZE: usize = 4_096;
 pub const RISCV_MAX_MEMORY: usize = 4_194_304;
 pub const RISCV_GENERAL_REGISTER_NUMBER: usize = 32;
 // handed on by memory/mod.rs and read by none of the files
-pub const MEMORY_FRAME_PAGE_SHIFTS: usize = 18;
+pub const MEMORY_FRAME_PAGE_SHIFTS: usize = 6;
 // read where instructions are run, which is not ported
 pub const ISA_MOP: u8 = 2;
 

@@ -1,0 +1,2 @@
+-- Document 01, "Rounding and pages": rounding.
+pub mod Rounding

@@ -1,0 +1,3 @@
+-- What holds of the numbers.
+pub mod Numbers
+pub mod Once

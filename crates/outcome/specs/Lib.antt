@@ -1,0 +1,2 @@
+-- Document 01, "Numbers that a call answers".
+pub mod Numbers

@@ -1,0 +1,3 @@
+-- The definitions that the contracts of `words` cite.
+pub mod Bytes
+pub mod LittleEndian

@@ -347,13 +347,17 @@ pub trait Host {
 /// Reads a script from standard input and writes its answers. The faults of lines that are none of
 /// the format are said on standard error, the first twenty.
 pub fn run(host: &mut impl Host) -> io::Result<()> {
-    let mut input = io::stdin().lock();
+    let mut input = io::BufReader::with_capacity(1 << 16, io::stdin().lock());
     let mut output = io::BufWriter::new(io::stdout().lock());
     let (mut text, mut count, mut faults) = (vec![], 0u64, 0u64);
     loop {
         text.clear();
+        // before it may wait for more, what is answered is written out
+        if input.buffer().is_empty() {
+            output.flush()?;
+        }
         if input.read_until(b'\n', &mut text)? == 0 {
-            return output.flush();
+            return Ok(());
         }
         count += 1;
         let line = read(&String::from_utf8_lossy(&text));

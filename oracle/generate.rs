@@ -885,7 +885,8 @@ impl Generator {
     // ---- sources
 
     fn source(&mut self, id: u64, length: u64) {
-        let bytes = self.bytes(length);
+        // No two pages of a long item are alike.
+        let bytes = if length > 16 { format!("gen:{}:{length}", self.random.below(1000)) } else { self.bytes(length) };
         self.set_up(format!("source {id} {bytes}"));
         self.entries.push((id, Some(length)));
         self.source_length += length;

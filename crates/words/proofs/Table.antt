@@ -26,6 +26,10 @@ four-read : fromLe (0x78 ∷ 0x56 ∷ 0x34 ∷ 0x12 ∷ []) ≡ 305419896
 unfolding fromLe
 four-read = refl
 
+four-written : toLe 4 305419896 ≡ 0x78 ∷ 0x56 ∷ 0x34 ∷ 0x12 ∷ []
+unfolding toLe
+four-written = refl
+
 eight-read : fromLe (255 ∷ 255 ∷ 255 ∷ 255 ∷ 255 ∷ 255 ∷ 255 ∷ 255 ∷ []) ≡ 2 ^ 64 - 1
 unfolding fromLe
 eight-read = refl

@@ -203,6 +203,7 @@ const THEMES: [Theme; 4] = [
         (12, Generator::store_word),
         (10, Generator::load_word),
         (4, Generator::execute_load),
+        (1, Generator::straddling),
         (6, Generator::load_bytes),
         (5, Generator::c_string),
         (6, Generator::init_pages),
@@ -213,7 +214,8 @@ const THEMES: [Theme; 4] = [
     ],
     &[
         (8, Generator::flag),
-        (8, Generator::executable),
+        (6, Generator::executable),
+        (5, Generator::straddling),
         (7, Generator::frozen),
         (5, Generator::init_pages),
         (6, Generator::store_word),
@@ -243,7 +245,7 @@ const THEMES: [Theme; 4] = [
         (1, Generator::load_bytes),
     ],
     &[
-        (5, Generator::record_file),
+        (8, Generator::record_file),
         (4, Generator::resume),
         (3, Generator::snapshot),
         (3, Generator::handover),
@@ -296,8 +298,8 @@ struct Generator {
     machines: [Machine; 10],
     /// The machines that the next calls go to: one, or two that shall stay alike.
     on: Vec<usize>,
-    /// The directory: id, and the item's length where its range is good.
-    entries: Vec<(u64, Option<u64>)>,
+    /// The directory: id, start, length.
+    entries: Vec<[u64; 3]>,
     source_length: u64,
 }
 
@@ -653,9 +655,10 @@ impl Generator {
 
     fn store_bytes(&mut self) {
         let (layer, address) = (self.layer(), self.address());
-        let most = 5 * PAGE;
-        let length = self.size_at(address);
-        let length = if length > most { self.random.below(40) } else { length };
+        let mut length = self.size_at(address);
+        if length > 5 * PAGE {
+            length = self.random.below(40);
+        }
         let bytes = self.bytes(length);
         self.call(&format!("{layer}.store_bytes {address} {bytes}"));
     }
@@ -668,14 +671,21 @@ impl Generator {
     }
 
     fn store_word(&mut self) {
-        let (layer, address, value) = (self.layer(), self.address(), self.number());
         let bits = self.random.pick(&[8, 16, 32, 64]);
+        let (layer, address, value) = (self.layer(), self.word_address(bits), self.number());
         self.call(&format!("{layer}.store{bits} {address} {value}"));
     }
 
+    /// An address for a word of so many bits: here and there its last byte is
+    /// close to the machine's last.
+    fn word_address(&mut self, bits: u64) -> u64 {
+        let end = self.here().size.wrapping_sub(bits / 8);
+        if self.random.one_in(9) { self.random.near(end, 1) } else { self.address() }
+    }
+
     fn load_word(&mut self) {
-        let (layer, address) = (self.layer(), self.address());
         let bits = self.random.pick(&[8, 16, 32, 64]);
+        let (layer, address) = (self.layer(), self.word_address(bits));
         if self.random.one_in(3) {
             let (before, value) = (self.random.below(8), self.number());
             self.call(&format!("s.store64 {} {value}", address.saturating_sub(before)));
@@ -684,8 +694,12 @@ impl Generator {
     }
 
     fn execute_load(&mut self) {
-        let (layer, address) = (self.layer(), self.address());
         let bits = self.random.pick(&[16, 32]);
+        let (layer, address) = (self.layer(), self.word_address(bits));
+        let last = self.here().pages().wrapping_sub(1);
+        if address / PAGE >= last && self.random.one_in(2) {
+            self.call(&format!("set_flag {last} 2"));
+        }
         self.call(&format!("{layer}.execute_load{bits} {address}"));
     }
 
@@ -708,11 +722,8 @@ impl Generator {
     /// A string is written, mostly with its zero, and read from near its start.
     fn c_string(&mut self) {
         let (layer, size) = (self.layer(), self.here().size);
-        let length = if self.random.one_in(25) {
-            self.random.between(PAGE, PAGE + 30)
-        } else {
-            self.random.below(30)
-        };
+        let length =
+            if self.random.one_in(25) { self.random.between(PAGE, PAGE + 30) } else { self.random.below(30) };
         let address = match self.random.below(8) {
             0 => size.saturating_sub(length),
             1 => size.saturating_sub(length + 1),
@@ -745,7 +756,8 @@ impl Generator {
             1 => memory.wrapping_sub(address),
             2 => memory.wrapping_sub(address).wrapping_add(PAGE),
             3 => self.random.pick(&[MAXIMUM, memory.wrapping_add(PAGE), TOP - PAGE + 1, TOP]),
-            _ => self.random.between(1, 3) * PAGE,
+            4 => self.random.between(1, 3) * PAGE,
+            _ => (self.random.between(1, 3) * PAGE).min(memory.saturating_sub(address)),
         };
         match self.random.below(14) {
             0 => address = self.address(),
@@ -755,6 +767,7 @@ impl Generator {
                 size = self.size_at(address);
             }
             3 => address = self.random.pick(&[memory, memory + PAGE, TOP - PAGE + 1]),
+            4 => (address, size) = (memory + self.random.below(2) * PAGE, 0),
             _ => {}
         }
         let lead = match self.random.below(10) {
@@ -788,7 +801,8 @@ impl Generator {
             }
             5 => self.call(&format!("clear_flag {page} {DIRTY}")),
             _ => {
-                let flags = if self.random.one_in(2) { self.flags() } else { self.random.pick(&[255, 7, 3, 2]) };
+                let flags =
+                    if self.random.one_in(2) { self.flags() } else { self.random.pick(&[255, 7, 3, 2]) };
                 self.call(&format!("clear_flag {page} {flags}"));
             }
         }
@@ -798,16 +812,23 @@ impl Generator {
     fn executable(&mut self) {
         let (page, flag) = (self.page(), self.random.between(2, 3));
         self.call(&format!("set_flag {page} {flag}"));
-        if self.random.one_in(2) {
-            let beside = page.wrapping_add(self.random.pick(&[1, TOP]));
-            self.call(&format!("set_flag {beside} 2"));
+        let beside = page.wrapping_add(self.random.pick(&[1, TOP]));
+        match self.random.below(4) {
+            0 => self.call(&format!("set_flag {beside} 2")),
+            1 => self.call(&format!("clear_flag {beside} 2")),
+            _ => {}
         }
         let start = page.wrapping_mul(PAGE);
         for _ in 0..self.random.between(1, 3) {
             let edge = self.random.pick(&[start, start.wrapping_add(PAGE)]);
-            let address = self.random.near(edge, 9);
             let (bits, value) = (self.random.pick(&[16, 32]), self.number());
-            match self.random.below(6) {
+            // Half of them end on the edge, or pass it by fewer bytes than they have.
+            let address = if self.random.one_in(2) {
+                edge.wrapping_sub(self.random.between(1, bits / 8))
+            } else {
+                self.random.near(edge, 9)
+            };
+            match self.random.below(8) {
                 0 => {
                     let bytes = self.random.between(1, 20);
                     let bytes = self.bytes(bytes);
@@ -824,6 +845,28 @@ impl Generator {
         }
         if !self.random.one_in(3) {
             self.call(&format!("clear_flag {page} 2"));
+        }
+    }
+
+    /// Words over the edge of two pages of the machine, each executable or not.
+    fn straddling(&mut self) {
+        let pages = self.here().pages();
+        if pages < 2 {
+            return self.execute_load();
+        }
+        let page = self.random.between(1, pages - 1);
+        for page in [page - 1, page] {
+            let way = self.random.pick(&["set", "clear"]);
+            self.call(&format!("{way}_flag {page} 2"));
+        }
+        for _ in 0..self.random.between(1, 3) {
+            let (bits, value) = (self.random.pick(&[16, 32, 64]), self.number());
+            let address = page * PAGE - self.random.between(1, bits / 8 - 1);
+            if bits == 64 || self.random.one_in(3) {
+                self.call(&format!("w.store{bits} {address} {value}"));
+            } else {
+                self.call(&format!("w.execute_load{bits} {address}"));
+            }
         }
     }
 
@@ -886,17 +929,19 @@ impl Generator {
 
     fn source(&mut self, id: u64, length: u64) {
         // No two pages of a long item are alike.
-        let bytes = if length > 16 { format!("gen:{}:{length}", self.random.below(1000)) } else { self.bytes(length) };
+        let bytes = if length > 16 {
+            format!("gen:{}:{length}", self.random.below(1000))
+        } else {
+            self.bytes(length)
+        };
         self.set_up(format!("source {id} {bytes}"));
-        self.entries.push((id, Some(length)));
+        self.entries.push([id, self.source_length, length]);
         self.source_length += length;
     }
 
     fn entry(&mut self, id: u64, start: u64, length: u64) {
         self.set_up(format!("entry {id} {start} {length}"));
-        let end = start as u128 + length as u128;
-        let good = end <= self.source_length as u128;
-        self.entries.push((id, good.then_some(length)));
+        self.entries.push([id, start, length]);
     }
 
     fn first_sources(&mut self) {
@@ -950,9 +995,12 @@ impl Generator {
         }
     }
 
-    /// The item's length where the first entry with the id is good.
+    /// The item's length where the first entry with the id is good now: bytes
+    /// that are appended later can make it so.
     fn length_of(&self, id: u64) -> Option<u64> {
-        self.entries.iter().find(|entry| entry.0 == id).and_then(|entry| entry.1)
+        let &[_, start, length] = self.entries.iter().find(|entry| entry[0] == id)?;
+        let end = start.checked_add(length)?;
+        (end <= self.source_length).then_some(length)
     }
 
     fn id(&mut self) -> u64 {
@@ -962,7 +1010,7 @@ impl Generator {
             2..=30 => self.random.pick(&[1, 2, TOP, 7, 20, 26]),
             _ => {
                 let at = self.random.below(self.entries.len() as u64) as usize;
-                self.entries[at].0
+                self.entries[at][0]
             }
         }
     }
@@ -1049,7 +1097,7 @@ impl Generator {
                 1 => offset = offset.wrapping_sub(1),
                 2 => id += 1,
                 3 => self.call(&format!("set_flag {page} {flag}")),
-                4 => continue,
+                4 | 5 => continue,
                 _ => {}
             }
             self.risky_call(
@@ -1070,6 +1118,9 @@ impl Generator {
         let start = self.address();
         let length = self.size_at(start);
         self.call(&format!("untrack {start} {length}"));
+        if self.random.one_in(4) {
+            self.call(&format!("clear_flag {} {DIRTY}", start / PAGE));
+        }
     }
 
     fn context(&mut self) {
@@ -1269,15 +1320,11 @@ impl Generator {
             records.push(run);
         }
         let mut file = RecordFile { records, cut: 0, more: 0, page_bytes: place * PAGE };
-        if self.random.one_in(2) {
-            self.damage(&mut file, place);
-        }
-        if self.random.one_in(120) {
+        if self.random.one_in(90) {
             let many = self.random.between(1032, 1034) as usize;
-            let last = [4, 0, DIRTY, 0, place, 0];
-            while file.records.len() < many {
-                file.records.push(last);
-            }
+            file.records.resize(many, [4, 0, DIRTY, 0, place, 0]);
+        } else if self.random.one_in(2) {
+            self.damage(&mut file, place);
         }
         let mut bytes = record_bytes(&file.records);
         bytes.truncate(bytes.len().saturating_sub(file.cut));
@@ -1319,7 +1366,12 @@ impl Generator {
 
     /// The address of a run: a page of the machine, seldom another.
     fn run_address(&mut self) -> u64 {
-        if self.random.one_in(14) { self.address() } else { self.page().wrapping_mul(PAGE) }
+        let start = self.page().wrapping_mul(PAGE);
+        match self.random.below(30) {
+            0 => self.address(),
+            1 | 2 => start.wrapping_add(1 << self.random.below(12)),
+            _ => start,
+        }
     }
 
     fn source_run(&mut self) -> Record {
@@ -1337,6 +1389,7 @@ impl Generator {
             3 => offset = self.offset_in(item),
             4 => length = TOP,
             5 => offset = item % PAGE,
+            6 => return [3, address.wrapping_add(self.random.below(2)), flag, 99, 0, length],
             _ => {}
         }
         [3, address, flag, id, offset, length]
@@ -1385,7 +1438,10 @@ impl Generator {
             22 => records.truncate(self.random.below(10) as usize),
             23 => records.truncate(8),
             24 => drop(records.remove(of_nine)),
-            25 => records.push([4, 0, DIRTY, self.random.pick(&[1 << 52, (1 << 52) - place, TOP, TOP - place]), place, 0]),
+            25 => {
+                let pages = self.random.pick(&[1 << 52, (1 << 52) - place, TOP, TOP - place]);
+                records.push([4, 0, DIRTY, pages, place, 0]);
+            }
             26 => records.extend([
                 [4, 0, DIRTY, TOP - place, place, 0],
                 [4, 0, DIRTY, self.random.between(1, 2), TOP, 0],
@@ -1437,6 +1493,9 @@ impl Generator {
         }
         self.set_up(format!("lend {k}"));
         self.call("raw");
+        if self.random.one_in(3) {
+            self.turn_fresh(k);
+        }
     }
 }
 

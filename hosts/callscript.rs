@@ -37,12 +37,13 @@ pub struct Action {
     pub lead: u64,
 }
 
+/// A line, read. The lengths of `lend` are elements of slot numbers, flags and record words, and bytes of
+/// the area; none: the whole again.
 pub enum Line {
     Source { id: u64, bytes: Vec<u8> },
     Entry { id: u64, start: u64, length: u64 },
     Fresh { machine: usize, size: u64, slots: u64, version: u32, max: u64 },
     File { name: String, records: Vec<u8>, pages: Vec<u8> },
-    /// Elements of slot numbers, flags and record words, and bytes of the area; none: the whole again.
     Lend { machine: usize, lengths: Option<[u64; 4]> },
     Slot { machine: usize, page: u64, number: u16 },
     Used { machine: usize, number: u64 },
@@ -53,6 +54,7 @@ pub enum Line {
     Call { machine: usize, call: Call },
 }
 
+/// A call on a machine.
 pub enum Call {
     StoreBytes { layer: Layer, address: u64, bytes: Vec<u8> },
     StoreByte { layer: Layer, address: u64, size: u64, value: u8 },
@@ -168,7 +170,9 @@ fn bytes(word: &str) -> Read<Vec<u8>> {
     };
     match word.split(':').collect::<Vec<_>>()[..] {
         ["-"] => Ok(vec![]),
-        [digits] if !digits.is_empty() => digits.as_bytes().chunks(2).map(hex_byte).collect::<Option<_>>().ok_or_else(bad),
+        [digits] if !digits.is_empty() => {
+            digits.as_bytes().chunks(2).map(hex_byte).collect::<Option<_>>().ok_or_else(bad)
+        }
         ["rep", byte, n] => Ok(vec![hex_byte(byte.as_bytes()).ok_or_else(bad)?; count(n)?]),
         ["gen", seed, n] => Ok(generated(number(seed)?, count(n)?)),
         _ => Err(bad()),

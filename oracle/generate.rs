@@ -161,12 +161,9 @@ type Action = [u64; 6];
 
 fn mark_stops(size: u64, offset: u64, actions: &[Action]) -> bool {
     for &[address, length, _, start, end, lead] in actions {
-        let (Some(from), Some(source), Some(room), Some(place)) = (
-            address.checked_add(lead),
-            end.checked_sub(start),
-            length.checked_sub(lead),
-            offset.checked_add(start),
-        ) else {
+        let (Some(from), Some(source), Some(room), Some(place)) =
+            (address.checked_add(lead), end.checked_sub(start), length.checked_sub(lead), offset.checked_add(start))
+        else {
             return true;
         };
         match track_ends(size, from, source.min(room), place) {
@@ -722,8 +719,7 @@ impl Generator {
     /// A string is written, mostly with its zero, and read from near its start.
     fn c_string(&mut self) {
         let (layer, size) = (self.layer(), self.here().size);
-        let length =
-            if self.random.one_in(25) { self.random.between(PAGE, PAGE + 30) } else { self.random.below(30) };
+        let length = if self.random.one_in(25) { self.random.between(PAGE, PAGE + 30) } else { self.random.below(30) };
         let address = match self.random.below(8) {
             0 => size.saturating_sub(length),
             1 => size.saturating_sub(length + 1),
@@ -801,8 +797,7 @@ impl Generator {
             }
             5 => self.call(&format!("clear_flag {page} {DIRTY}")),
             _ => {
-                let flags =
-                    if self.random.one_in(2) { self.flags() } else { self.random.pick(&[255, 7, 3, 2]) };
+                let flags = if self.random.one_in(2) { self.flags() } else { self.random.pick(&[255, 7, 3, 2]) };
                 self.call(&format!("clear_flag {page} {flags}"));
             }
         }
@@ -929,11 +924,7 @@ impl Generator {
 
     fn source(&mut self, id: u64, length: u64) {
         // No two pages of a long item are alike.
-        let bytes = if length > 16 {
-            format!("gen:{}:{length}", self.random.below(1000))
-        } else {
-            self.bytes(length)
-        };
+        let bytes = if length > 16 { format!("gen:{}:{length}", self.random.below(1000)) } else { self.bytes(length) };
         self.set_up(format!("source {id} {bytes}"));
         self.entries.push([id, self.source_length, length]);
         self.source_length += length;
@@ -1100,10 +1091,7 @@ impl Generator {
                 4 | 5 => continue,
                 _ => {}
             }
-            self.risky_call(
-                &format!("track {} {PAGE} {id} {offset}", page * PAGE),
-                offset.checked_add(PAGE).is_none(),
-            );
+            self.risky_call(&format!("track {} {PAGE} {id} {offset}", page * PAGE), offset.checked_add(PAGE).is_none());
             if self.random.one_in(8) {
                 self.call(&format!("set_flag {page} {flag}"));
             }

@@ -227,7 +227,8 @@ impl Running {
     /// compiled as it stands.
     fn tracked(&self) -> BTreeMap<u64, (u64, u64, u64)> {
         let text = format!("{:?}", self.context);
-        let pages = text.strip_prefix("Snapshot2Context { pages: {").and_then(|t| t.strip_suffix("}, data_source: sources }"));
+        let pages =
+            text.strip_prefix("Snapshot2Context { pages: {").and_then(|t| t.strip_suffix("}, data_source: sources }"));
         let numbers: Vec<u64> = pages
             .expect("the derived Debug of the context")
             .split(|c: char| !c.is_ascii_digit())
@@ -241,7 +242,8 @@ impl Running {
         let size = self.core.memory().memory_size() as u64;
         let memory = self.core.memory_mut();
         let bytes = memory.load_bytes(0, size)?;
-        let flags = (0..size / RISCV_PAGESIZE as u64).map(|page| memory.fetch_flag(page)).collect::<Result<Vec<_>, _>>()?;
+        let flags =
+            (0..size / RISCV_PAGESIZE as u64).map(|page| memory.fetch_flag(page)).collect::<Result<Vec<_>, _>>()?;
         let mut answer = format!("0 {size} {} {} {}", memory.lr(), hash(&bytes), hex(&flags));
         for (page, (id, offset, flag)) in self.tracked() {
             if flags[page as usize] & FLAG_DIRTY == 0 {
@@ -270,7 +272,9 @@ impl Running {
         let Running { core, context } = self;
         match call {
             Call::StoreBytes { layer, address, bytes } => done(on!(core, layer, m => m.store_bytes(address, &bytes))),
-            Call::StoreByte { layer, address, size, value } => done(on!(core, layer, m => m.store_byte(address, size, value))),
+            Call::StoreByte { layer, address, size, value } => {
+                done(on!(core, layer, m => m.store_byte(address, size, value)))
+            }
             Call::Store { layer, width, address, value } => done(self.store(layer, width, address, value)),
             Call::Load { layer, width, address } => value(self.load(layer, width, address)),
             Call::ExecuteLoad { layer, width, address } => value(self.execute_load(layer, width, address)),

@@ -12,8 +12,6 @@ ghost use lib.ListN.{length, take};
 ghost use Rattle.bits.specs.Rounding.{pageSize};
 ghost use Rattle.words.specs.Bytes.{written, filled};
 ghost use Rattle.words.specs.LittleEndian.{toLe, Read};
-
-// How many bytes a page has.
 use bits::RISCV_PAGESIZE;
 
 // A byte as a number of 64 bits.

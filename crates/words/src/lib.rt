@@ -22,7 +22,7 @@ fn wide(x: u8) -> u64
 }
 
 // The lesser of two.
-fn least(a: usize, b: usize) -> usize
+pub fn least(a: usize, b: usize) -> usize
     ensures { λ r. ⌜ r ≡ min a b ⌝ }
 {
     if a < b { a } else { b }

@@ -1,0 +1,2 @@
+-- What holds of the memory.
+pub mod Lengths

@@ -1,0 +1,4 @@
+-- What holds of all programs.
+pub mod Laws
+pub mod Like
+pub mod Keeps

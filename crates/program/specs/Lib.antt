@@ -1,0 +1,2 @@
+-- Calls as programs.
+pub mod Program

@@ -1,8 +1,9 @@
 //! The archive of crate `host`: its C functions, and safe calls of them over slices.
 //!
-//! A slice goes over as pointer and length. A memory goes in by value and comes back whole, on a refusal
-//! too: a store that is refused may have taken slots. Nothing checks these declarations against the
-//! crate, so they keep its names and its order of parameters.
+//! A slice goes over as pointer and length, and a memory as its size and its slots in use: two numbers, since
+//! a struct would go over the stack, where a store of its parts and a load of the whole wait for each other.
+//! A store hands back the slots then in use, on a refusal too: it may have taken some. Nothing checks these
+//! declarations against the crate, so they keep its names and its order of parameters.
 
 /// What a memory keeps by value, beside the storage that is lent.
 #[repr(C)]
@@ -16,6 +17,12 @@ pub struct Memory {
 /// The answer of a call that may take slots.
 #[repr(C)]
 pub struct Stored {
+    pub number: u32,
+    pub used: u64,
+}
+
+#[repr(C)]
+pub struct Fresh {
     pub number: u32,
     pub memory: Memory,
 }
@@ -80,27 +87,29 @@ macro_rules! memories {
 }
 
 memories! {
-    fn fresh(*mut u16, usize, *mut u8, usize, *mut u8, usize, u64) -> Stored;
-    fn init_pages(*mut u16, usize, *mut u8, usize, *mut u8, usize, *const u8, usize, Memory, u64, u64, u8, u64) -> Stored;
-    fn fetch_flag(*const u16, usize, *const u8, usize, *const u8, usize, Memory, u64) -> Value;
-    fn set_flag(*const u16, usize, *mut u8, usize, *const u8, usize, Memory, u64, u8) -> u32;
-    fn clear_flag(*const u16, usize, *mut u8, usize, *const u8, usize, Memory, u64, u8) -> u32;
+    fn fresh(*mut u16, usize, *mut u8, usize, *mut u8, usize, u64) -> Fresh;
+    fn init_pages(
+        *mut u16, usize, *mut u8, usize, *mut u8, usize, *const u8, usize, u64, u64, u64, u64, u8, u64
+    ) -> Stored;
+    fn fetch_flag(*const u16, usize, *const u8, usize, *const u8, usize, u64, u64, u64) -> Value;
+    fn set_flag(*const u16, usize, *mut u8, usize, *const u8, usize, u64, u64, u64, u8) -> u32;
+    fn clear_flag(*const u16, usize, *mut u8, usize, *const u8, usize, u64, u64, u64, u8) -> u32;
     fn memory_size(Memory) -> u64;
     fn memory_pages(Memory) -> u64;
-    fn store_byte(*mut u16, usize, *mut u8, usize, *mut u8, usize, Memory, u64, u64, u8) -> Stored;
-    fn store_bytes(*mut u16, usize, *mut u8, usize, *mut u8, usize, *const u8, usize, Memory, u64) -> Stored;
-    fn load_bytes(*const u16, usize, *const u8, usize, *const u8, usize, *mut u8, usize, Memory, u64, u64) -> u32;
-    fn load_c_string(*const u16, usize, *const u8, usize, *const u8, usize, *mut u8, usize, Memory, u64) -> Value;
-    fn execute_load16(*const u16, usize, *const u8, usize, *const u8, usize, Memory, u64) -> Value;
-    fn execute_load32(*const u16, usize, *const u8, usize, *const u8, usize, Memory, u64) -> Value;
-    fn load8(*const u16, usize, *const u8, usize, *const u8, usize, Memory, u64) -> Value;
-    fn load16(*const u16, usize, *const u8, usize, *const u8, usize, Memory, u64) -> Value;
-    fn load32(*const u16, usize, *const u8, usize, *const u8, usize, Memory, u64) -> Value;
-    fn load64(*const u16, usize, *const u8, usize, *const u8, usize, Memory, u64) -> Value;
-    fn store8(*mut u16, usize, *mut u8, usize, *mut u8, usize, Memory, u64, u64) -> Stored;
-    fn store16(*mut u16, usize, *mut u8, usize, *mut u8, usize, Memory, u64, u64) -> Stored;
-    fn store32(*mut u16, usize, *mut u8, usize, *mut u8, usize, Memory, u64, u64) -> Stored;
-    fn store64(*mut u16, usize, *mut u8, usize, *mut u8, usize, Memory, u64, u64) -> Stored;
+    fn store_byte(*mut u16, usize, *mut u8, usize, *mut u8, usize, u64, u64, u64, u64, u8) -> Stored;
+    fn store_bytes(*mut u16, usize, *mut u8, usize, *mut u8, usize, *const u8, usize, u64, u64, u64) -> Stored;
+    fn load_bytes(*const u16, usize, *const u8, usize, *const u8, usize, *mut u8, usize, u64, u64, u64, u64) -> u32;
+    fn load_c_string(*const u16, usize, *const u8, usize, *const u8, usize, *mut u8, usize, u64, u64, u64) -> Value;
+    fn execute_load16(*const u16, usize, *const u8, usize, *const u8, usize, u64, u64, u64) -> Value;
+    fn execute_load32(*const u16, usize, *const u8, usize, *const u8, usize, u64, u64, u64) -> Value;
+    fn load8(*const u16, usize, *const u8, usize, *const u8, usize, u64, u64, u64) -> Value;
+    fn load16(*const u16, usize, *const u8, usize, *const u8, usize, u64, u64, u64) -> Value;
+    fn load32(*const u16, usize, *const u8, usize, *const u8, usize, u64, u64, u64) -> Value;
+    fn load64(*const u16, usize, *const u8, usize, *const u8, usize, u64, u64, u64) -> Value;
+    fn store8(*mut u16, usize, *mut u8, usize, *mut u8, usize, u64, u64, u64, u64) -> Stored;
+    fn store16(*mut u16, usize, *mut u8, usize, *mut u8, usize, u64, u64, u64, u64) -> Stored;
+    fn store32(*mut u16, usize, *mut u8, usize, *mut u8, usize, u64, u64, u64, u64) -> Stored;
+    fn store64(*mut u16, usize, *mut u8, usize, *mut u8, usize, u64, u64, u64, u64) -> Stored;
     fn lr(Memory) -> u64;
     fn set_lr(Memory, u64) -> Memory;
 }
@@ -127,7 +136,7 @@ macro_rules! lend {
 macro_rules! loads {
     ($($call:ident)*) => {
         $(pub fn $call(&self, lent: Lent, memory: Memory, address: u64) -> Value {
-            lend!((self.$call), lent, memory, address)
+            lend!((self.$call), lent, memory.size, memory.used, address)
         })*
     };
 }
@@ -135,13 +144,13 @@ macro_rules! loads {
 macro_rules! stores {
     ($($call:ident)*) => {
         $(pub fn $call(&self, lent: Lent, memory: Memory, address: u64, value: u64) -> Stored {
-            lend!((self.$call), lent, memory, address, value)
+            lend!((self.$call), lent, memory.size, memory.used, address, value)
         })*
     };
 }
 
 impl Calls {
-    pub fn fresh(&self, lent: Lent, size: u64) -> Stored {
+    pub fn fresh(&self, lent: Lent, size: u64) -> Fresh {
         lend!((self.fresh), lent, size)
     }
 
@@ -156,19 +165,30 @@ impl Calls {
         flag: u8,
         lead: u64,
     ) -> Stored {
-        lend!((self.init_pages), lent, source.as_ptr(), source.len(), memory, address, size, flag, lead)
+        lend!(
+            (self.init_pages),
+            lent,
+            source.as_ptr(),
+            source.len(),
+            memory.size,
+            memory.used,
+            address,
+            size,
+            flag,
+            lead
+        )
     }
 
     pub fn fetch_flag(&self, lent: Lent, memory: Memory, page: u64) -> Value {
-        lend!((self.fetch_flag), lent, memory, page)
+        lend!((self.fetch_flag), lent, memory.size, memory.used, page)
     }
 
     pub fn set_flag(&self, lent: Lent, memory: Memory, page: u64, flag: u8) -> u32 {
-        lend!((self.set_flag), lent, memory, page, flag)
+        lend!((self.set_flag), lent, memory.size, memory.used, page, flag)
     }
 
     pub fn clear_flag(&self, lent: Lent, memory: Memory, page: u64, flag: u8) -> u32 {
-        lend!((self.clear_flag), lent, memory, page, flag)
+        lend!((self.clear_flag), lent, memory.size, memory.used, page, flag)
     }
 
     pub fn memory_size(&self, memory: Memory) -> u64 {
@@ -181,20 +201,20 @@ impl Calls {
     }
 
     pub fn store_byte(&self, lent: Lent, memory: Memory, address: u64, size: u64, value: u8) -> Stored {
-        lend!((self.store_byte), lent, memory, address, size, value)
+        lend!((self.store_byte), lent, memory.size, memory.used, address, size, value)
     }
 
     pub fn store_bytes(&self, lent: Lent, bytes: &[u8], memory: Memory, address: u64) -> Stored {
-        lend!((self.store_bytes), lent, bytes.as_ptr(), bytes.len(), memory, address)
+        lend!((self.store_bytes), lent, bytes.as_ptr(), bytes.len(), memory.size, memory.used, address)
     }
 
     pub fn load_bytes(&self, lent: Lent, out: &mut [u8], memory: Memory, address: u64, size: u64) -> u32 {
-        lend!((self.load_bytes), lent, out.as_mut_ptr(), out.len(), memory, address, size)
+        lend!((self.load_bytes), lent, out.as_mut_ptr(), out.len(), memory.size, memory.used, address, size)
     }
 
     /// The value is the string's length.
     pub fn load_c_string(&self, lent: Lent, out: &mut [u8], memory: Memory, address: u64) -> Value {
-        lend!((self.load_c_string), lent, out.as_mut_ptr(), out.len(), memory, address)
+        lend!((self.load_c_string), lent, out.as_mut_ptr(), out.len(), memory.size, memory.used, address)
     }
 
     loads!(execute_load16 execute_load32 load8 load16 load32 load64);
@@ -223,7 +243,8 @@ pub mod parts {
             _: usize,
             _: *const u8,
             _: usize,
-            memory: Memory,
+            size: u64,
+            used: u64,
             first: u64,
             last: u64,
             flag: u8,
@@ -235,7 +256,8 @@ pub mod parts {
             _: usize,
             _: *const u8,
             _: usize,
-            memory: Memory,
+            size: u64,
+            used: u64,
             first: u64,
             last: u64,
         ) -> u32;
@@ -248,7 +270,8 @@ pub mod parts {
             _: usize,
             _: *const u8,
             _: usize,
-            memory: Memory,
+            memory_size: u64,
+            used: u64,
             address: u64,
             size: u64,
             lead: u64,
@@ -256,14 +279,24 @@ pub mod parts {
     }
 
     pub fn check_permission(lent: Lent, memory: Memory, first: u64, last: u64, flag: u8) -> u32 {
-        lend!(latchpebble_check_permission, lent, memory, first, last, flag)
+        lend!(latchpebble_check_permission, lent, memory.size, memory.used, first, last, flag)
     }
 
     pub fn set_dirty(lent: Lent, memory: Memory, first: u64, last: u64) -> u32 {
-        lend!(latchpebble_set_dirty, lent, memory, first, last)
+        lend!(latchpebble_set_dirty, lent, memory.size, memory.used, first, last)
     }
 
     pub fn fill_page_data(lent: Lent, source: &[u8], memory: Memory, address: u64, size: u64, lead: u64) -> Stored {
-        lend!(latchpebble_fill_page_data, lent, source.as_ptr(), source.len(), memory, address, size, lead)
+        lend!(
+            latchpebble_fill_page_data,
+            lent,
+            source.as_ptr(),
+            source.len(),
+            memory.size,
+            memory.used,
+            address,
+            size,
+            lead
+        )
     }
 }

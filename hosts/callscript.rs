@@ -337,8 +337,16 @@ pub fn hex(bytes: &[u8]) -> String {
 
 /// HASH of an answer: FNV-1a, 64 bits.
 pub fn hash(bytes: &[u8]) -> String {
+    const PRIME: u64 = 0x100000001b3;
+    // a run of zero bytes is a power of the prime
+    const ZEROS: u64 = PRIME.wrapping_pow(64);
+    let byte = |h: u64, b: &u8| (h ^ u64::from(*b)).wrapping_mul(PRIME);
+    let (runs, rest) = bytes.as_chunks::<64>();
     let start = 0xcbf29ce484222325u64;
-    let h = bytes.iter().fold(start, |h, b| (h ^ u64::from(*b)).wrapping_mul(0x100000001b3));
+    let h = runs
+        .iter()
+        .fold(start, |h, run| if *run == [0; 64] { h.wrapping_mul(ZEROS) } else { run.iter().fold(h, byte) });
+    let h = rest.iter().fold(h, byte);
     format!("{h:016x}")
 }
 

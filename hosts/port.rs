@@ -12,7 +12,7 @@ mod archive;
 #[allow(dead_code)]
 mod callscript;
 
-use archive::{Calls, Lent, Memory, SPARSE, Stored, Value, WXORX};
+use archive::{Calls, Fresh, Lent, Memory, SPARSE, Stored, Value, WXORX};
 use callscript::{Call, Fault, Host, Layer, Line, MOST_BYTES, UNWRITTEN, Width, hash, hex};
 
 const PAGE: u64 = 4096;
@@ -109,9 +109,9 @@ fn value(Value { number, value }: Value) -> String {
 }
 
 impl Machine {
-    /// The memory that is handed back is the machine's, on a refusal too.
-    fn stored(&mut self, Stored { number, memory }: Stored) -> String {
-        self.memory = memory;
+    /// The slots that are handed back are the machine's, on a refusal too.
+    fn stored(&mut self, Stored { number, used }: Stored) -> String {
+        self.memory.used = used;
         number.to_string()
     }
 
@@ -244,8 +244,12 @@ struct Port {
 }
 
 impl Port {
-    fn machine(&mut self, machine: usize) -> Result<&mut Machine, Fault> {
-        self.machines[machine].as_mut().ok_or_else(|| format!("no machine {machine}"))
+    /// The machine, and where its outputs are made.
+    fn machine(&mut self, machine: usize) -> Result<(&mut Machine, &mut Vec<u8>), Fault> {
+        match &mut self.machines[machine] {
+            None => Err(format!("no machine {machine}")),
+            Some(there) => Ok((there, &mut self.out)),
+        }
     }
 
     /// The storage has other contents before, so that what `fresh` leaves unwritten is seen.
@@ -261,7 +265,7 @@ impl Port {
             area: Held::new(BEFORE, area),
             own: if machine % 2 == 0 { &WXORX } else { &SPARSE },
         };
-        let Stored { number, memory } = made.own.fresh(made.lent(), size);
+        let Fresh { number, memory } = made.own.fresh(made.lent(), size);
         if number == 0 {
             self.machines[machine] = Some(Machine { memory, ..made });
         }
@@ -274,13 +278,16 @@ impl Host for Port {
         Ok(Some(match line {
             // nothing asks for sources or files yet
             Line::Source { .. } | Line::Entry { .. } | Line::File { .. } => return Ok(None),
-            Line::Lend { machine, lengths } => return self.machine(machine)?.lend(lengths).map(|()| None),
+            Line::Lend { machine, lengths } => {
+                self.machine(machine)?.0.lend(lengths)?;
+                return Ok(None);
+            }
             Line::Slot { machine, page, number } => {
-                self.machine(machine)?.write_slot(page, number);
+                self.machine(machine)?.0.write_slot(page, number);
                 return Ok(None);
             }
             Line::Used { machine, number } => {
-                self.machine(machine)?.memory.used = number;
+                self.machine(machine)?.0.memory.used = number;
                 return Ok(None);
             }
             // nor for a version or a maximum of cycles
@@ -293,16 +300,11 @@ impl Host for Port {
             }
             Line::Show { .. } => return not_in_the_archive(),
             Line::Call { machine, call } => {
-                let Port { machines, out } = self;
-                let machine = machines[machine].as_mut().ok_or_else(|| no_machine(machine))?;
+                let (machine, out) = self.machine(machine)?;
                 machine.call(out, call)?
             }
         }))
     }
-}
-
-fn no_machine(machine: usize) -> Fault {
-    format!("no machine {machine}")
 }
 
 fn main() -> std::process::ExitCode {

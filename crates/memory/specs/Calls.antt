@@ -1,12 +1,11 @@
 -- The public calls on a memory as data: what each is given, what it answers, and its meaning, by the definitions that its promise
 -- cites. Outputs are lent by their length: what is laid into them is part of the answer.
-use mathlib.Core.Bool.{cond}
-use mathlib.Core.List.{List}
+use mathlib.Core.List.{List, [], _∷_}
 use Prim.Native.Nat.{ℕ}
 use Rattle.program.specs.Program.{run}
 use Rattle.memory.specs.Storage.{State, Valued}
 use Rattle.memory.specs.Operations.{Call, does}
-use Rattle.memory.specs.Sparse.{Output, fetchFlag, setFlag, clearFlag, memorySize, memoryPages, lr, setLr, checkPermission, setDirty, loadWide, loadBytes, loadCString, fillPageData}
+use Rattle.memory.specs.Sparse.{Output, output, noOutput, fetchFlag, setFlag, clearFlag, memorySize, memoryPages, lr, setLr, checkPermission, setDirty, loadWide, loadBytes, loadCString, fillPageData}
 use Rattle.memory.specs.Sparse as sparse
 use Rattle.memory.specs.WXorX as wxorx
 
@@ -76,3 +75,56 @@ program (execute-load on-wxorx n a) = wxorx.executeLoad n a
 program (load-c-string a room) = loadCString a room
 program get-lr = lr
 program (set-lr x) = setLr x
+
+-- an answer as a number of document 01's table, a value and bytes: 0 and none where a call answers no such thing. A call that
+-- answers a value alone is done
+abbrev pub said : (c : Named) → Answers c → Output
+said (init-pages l a size flags lead source) n = noOutput n
+said (fill-page-data a size lead source) n = noOutput n
+said (fetch-flag p) v = output (v .number) (v .value) []
+said (set-flag p f) n = noOutput n
+said (check-permission first last want) n = noOutput n
+said (set-dirty first last) n = noOutput n
+said memory-size n = output 0 n []
+said memory-pages n = output 0 n []
+said (store-byte l a n v) r = noOutput r
+said (store-bytes l a bytes) n = noOutput n
+said (store-wide l n a x) r = noOutput r
+said (load-bytes a n room) o = o
+said (load-wide n a) v = output (v .number) (v .value) []
+said (execute-load l n a) v = output (v .number) (v .value) []
+said (load-c-string a room) o = o
+said get-lr n = output 0 n []
+said (set-lr x) n = noOutput n
+
+abbrev pub numberIn : (c : Named) → Answers c → ℕ
+numberIn c x = said c x .number
+
+-- ---- calls in turn
+
+-- one of the calls above, or a flag cleared
+pub data Given : Type 0 where
+  named : Named → Given
+  clear-flag : ℕ → ℕ → Given
+
+abbrev pub AnswerTo : Given → Type 0
+AnswerTo (named c) = Answers c
+AnswerTo (clear-flag p f) = ℕ
+
+-- what a call answers and leaves
+abbrev pub answer : (g : Given) → State → AnswerTo g × State
+answer (named c) s = run does (program c) s
+answer (clear-flag p f) s = clearFlag p f s
+
+abbrev pub told : (g : Given) → AnswerTo g → Output
+told (named c) x = said c x
+told (clear-flag p f) n = noOutput n
+
+-- what calls answer one after another, and what they leave
+unfoldable pub answers : List Given → State → List Output
+answers [] s = []
+answers (g ∷ gs) s = told g ((answer g s) .0) ∷ answers gs ((answer g s) .1)
+
+unfoldable pub leaves : List Given → State → State
+leaves [] s = s
+leaves (g ∷ gs) s = leaves gs ((answer g s) .1)

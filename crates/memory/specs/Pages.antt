@@ -38,12 +38,17 @@ pub record PageIndices : Type 0 where
 abbrev pub noIndices : ℕ → PageIndices
 noIndices n = record { number = n; first = 0; last = 0 }
 
--- "Page indices of (address, size), size above 0: refuse 2 if the sum passes 2^64-1 or 4,194,304 (the maximum, not this
--- machine's size). .. Size 0, which the Rust only asserts against, is refused 2."
-unfoldable pub pageIndices : ℕ → ℕ → PageIndices
-pageIndices address size =
+-- the pages of so many bytes from an address on, where their end doesn't pass a bound; "Size 0, which the Rust only asserts
+-- against, is refused 2."
+unfoldable pub pagesWithin : ℕ → ℕ → ℕ → PageIndices
+pagesWithin bound address size =
     cond (eqb size 0)
     (noIndices 2)
-    (cond (leb (address + size) maximum)
+    (cond (leb (address + size) bound)
     (record { number = 0; first = address / pageSize; last = (address + size - 1) / pageSize })
     (noIndices 2))
+
+-- "Page indices of (address, size), size above 0: refuse 2 if the sum passes 2^64-1 or 4,194,304 (the maximum, not this
+-- machine's size)."
+abbrev pub pageIndices : ℕ → ℕ → PageIndices
+pageIndices address size = pagesWithin maximum address size

@@ -20,7 +20,7 @@ ghost use Prim.Native.Nat.{_+_, _≤_, _<_};
 ghost use lib.ListN.{length};
 ghost use Rattle.outcome.specs.Numbers.{numberOf};
 ghost use Rattle.program.specs.Program.{run};
-ghost use Rattle.memory.specs.Pages.{pageIndices};
+ghost use Rattle.memory.specs.Pages.{pagesWithin, pageIndices};
 ghost use Rattle.memory.specs.Storage.{stateOf, fitsLengths, Fitting};
 ghost use Rattle.memory.specs.Operations.{does};
 ghost use Rattle.memory.specs.Sparse.{permits, checkPermission, marks, setDirty, fillPageData};
@@ -103,12 +103,15 @@ fn storage_fits(slots: usize, flags: usize, area: usize, memory: Memory) -> bool
     if room > MOST_SLOTS {
         return false;
     }
-    used as usize <= room
+    if used as usize > room {
+        return false;
+    }
+    true
 }
 
-// The pages of `size` bytes from an address on; the bound is the maximum, not a memory's size.
-pub fn get_page_indices(address: u64, size: u64) -> Indices
-    ensures { λ r. ⌜ indicesOf r ≡ pageIndices address size ⌝ }
+// The pages of `size` bytes from an address on, where their end doesn't pass a bound.
+fn pages_within(address: u64, size: u64, bound: u64) -> Indices
+    ensures { λ r. ⌜ indicesOf r ≡ pagesWithin bound address size ⌝ }
 {
     if size == 0 {
         return Indices {
@@ -125,7 +128,7 @@ pub fn get_page_indices(address: u64, size: u64) -> Indices
             last: 0,
         };
     }
-    if end > RISCV_MAX_MEMORY {
+    if end > bound {
         return Indices {
             outcome: Outcome::MemOutOfBound,
             first: 0,
@@ -137,6 +140,13 @@ pub fn get_page_indices(address: u64, size: u64) -> Indices
         first: address / PAGE,
         last: (end - 1) / PAGE,
     }
+}
+
+// The pages of `size` bytes from an address on; the bound is the maximum, not a memory's size.
+pub fn get_page_indices(address: u64, size: u64) -> Indices
+    ensures { λ r. ⌜ indicesOf r ≡ pageIndices address size ⌝ }
+{
+    pages_within(address, size, RISCV_MAX_MEMORY)
 }
 
 // Every page from first to last has the W^X bit of `flag`.
@@ -195,7 +205,7 @@ fn permits_bytes(
 ) -> Outcome
     ensures { λ r. ⌜ (numberOf r, stateOf (now (slots .entry)) (now (flags .entry)) (now (area .entry)) memory) ≡ run does (permitted flag address size) (stateOf (now (slots .entry)) (now (flags .entry)) (now (area .entry)) memory) ⌝ }
 {
-    let indices = get_page_indices(address, size);
+    let indices = pages_within(address, size, RISCV_MAX_MEMORY);
     let outcome = indices.outcome;
     let first = indices.first;
     let last = indices.last;

@@ -1,11 +1,13 @@
 // One page of the memory, and stores page by page. Lengths are right here.
 ghost use mathlib.Core.Path.{_≡_};
 ghost use Prim.Native.Nat.{_+_, _-_, _*_, _/_, _≤_, _<_, min};
-ghost use lib.ListN.{length, getD};
+ghost use lib.ListN.{length, getD, set};
+ghost use lib.Bits.{bitOr};
 ghost use Rattle.bits.specs.Rounding.{pageSize};
 ghost use Rattle.outcome.specs.Numbers.{numberOf};
 ghost use Rattle.words.specs.Bytes.{written, filled};
 ghost use Rattle.program.specs.Program.{run};
+ghost use Rattle.memory.specs.Pages.{dirty};
 ghost use Rattle.memory.specs.Storage.{stateOf, Fitting, slotIn, fetchPage, storePage};
 ghost use Rattle.memory.specs.Operations.{does};
 ghost use Rattle.memory.specs.Sparse.{store, fillRest, fill};
@@ -60,7 +62,7 @@ pub fn slot_of(slots: &[u16], page: usize) -> usize
 }
 
 // Copies all of `source` into a page, from index `at` on.
-fn copy_into(page: &mut [u8], source: &[u8], at: usize)
+fn copy_page(page: &mut [u8], source: &[u8], at: usize)
     requires { ⌜ at + length (now source) ≤ length (now page) ⌝ }
     requires { ⌜ length (now page) ≤ pageSize ⌝ }
     ensures { λ _. ⌜ now (page .exit) ≡ written (now (page .entry)) at (now (source .entry)) ⌝ }
@@ -70,12 +72,56 @@ fn copy_into(page: &mut [u8], source: &[u8], at: usize)
 }
 
 // Sets `n` bytes of a page from index `at` on to one value.
-fn fill_into(page: &mut [u8], at: usize, n: usize, value: u8)
+fn fill_page(page: &mut [u8], at: usize, n: usize, value: u8)
     requires { ⌜ at + n ≤ length (now page) ⌝ }
     ensures { λ _. ⌜ now (page .exit) ≡ written (now (page .entry)) at (filled n value) ⌝ }
 {
     let end = at + n;
     words::fill(&mut page[at..end], value);
+}
+
+// Marks page `p` dirty.
+fn mark_dirty(flags: &mut [u8], p: usize)
+    requires { ⌜ p < length (now flags) ⌝ }
+    ensures { λ _. ⌜ now (flags .exit) ≡ set (now (flags .entry)) p (bitOr (getD (now (flags .entry)) p 0) dirty) ⌝ }
+{
+    flags[p] = flags[p] | FLAG_DIRTY;
+}
+
+// Copies all of `source` into the slot of page `p`, from index `at` on, and marks the page dirty.
+fn copy_into(flags: &mut [u8], area: &mut [u8], source: &[u8], p: usize, slot: usize, at: usize)
+    requires { ⌜ p < length (now flags) ⌝ }
+    requires { ⌜ slot < length (now area) / pageSize ⌝ }
+    requires { ⌜ at + length (now source) ≤ pageSize ⌝ }
+    ensures { λ _. ⌜ now (flags .exit) ≡ set (now (flags .entry)) p (bitOr (getD (now (flags .entry)) p 0) dirty) ⌝ }
+    ensures { λ _. ⌜ now (area .exit) ≡ written (now (area .entry)) (slot * pageSize + at) (now (source .entry)) ⌝ }
+{
+    let start = slot * RISCV_PAGESIZE;
+    let end = start + RISCV_PAGESIZE;
+    copy_page(&mut area[start..end], source, at);
+    mark_dirty(flags, p);
+}
+
+// Sets `n` bytes of the slot of page `p` from index `at` on to one value, and marks the page dirty.
+fn fill_into(
+    flags: &mut [u8],
+    area: &mut [u8],
+    p: usize,
+    slot: usize,
+    at: usize,
+    n: usize,
+    value: u8,
+)
+    requires { ⌜ p < length (now flags) ⌝ }
+    requires { ⌜ slot < length (now area) / pageSize ⌝ }
+    requires { ⌜ at + n ≤ pageSize ⌝ }
+    ensures { λ _. ⌜ now (flags .exit) ≡ set (now (flags .entry)) p (bitOr (getD (now (flags .entry)) p 0) dirty) ⌝ }
+    ensures { λ _. ⌜ now (area .exit) ≡ written (now (area .entry)) (slot * pageSize + at) (filled n value) ⌝ }
+{
+    let start = slot * RISCV_PAGESIZE;
+    let end = start + RISCV_PAGESIZE;
+    fill_page(&mut area[start..end], at, n, value);
+    mark_dirty(flags, p);
 }
 
 // Zeros a slot.
@@ -167,11 +213,8 @@ fn store_part(
     let slot = fetched.slot;
     let next = fetched.memory;
     if outcome::is_done(outcome) {
-        let start = slot * RISCV_PAGESIZE;
-        let end = start + RISCV_PAGESIZE;
-        copy_into(&mut area[start..end], source, at);
         let p = page as usize;
-        flags[p] = flags[p] | FLAG_DIRTY;
+        copy_into(flags, area, source, p, slot, at);
         return Answer {
             outcome: Outcome::Done,
             memory: next,
@@ -204,11 +247,8 @@ fn fill_part(
     let slot = fetched.slot;
     let next = fetched.memory;
     if outcome::is_done(outcome) {
-        let start = slot * RISCV_PAGESIZE;
-        let end = start + RISCV_PAGESIZE;
-        fill_into(&mut area[start..end], at, n, value);
         let p = page as usize;
-        flags[p] = flags[p] | FLAG_DIRTY;
+        fill_into(flags, area, p, slot, at, n, value);
         return Answer {
             outcome: Outcome::Done,
             memory: next,
@@ -248,9 +288,9 @@ pub fn store_pages(
             return answer;
         }
         state = next;
-        rest = &rest[n..];
         page += 1;
         at = 0;
+        rest = &rest[n..];
     }
     Answer {
         outcome: Outcome::Done,
@@ -313,6 +353,7 @@ fn fill_source(
     requires { ⌜ front + left < 18446744073709551616 ⌝ }
     ensures { λ r. ⌜ answered r (now (slots .exit)) (now (flags .exit)) (now (area .exit)) ≡ run does (fillRest address front left (now (source .entry))) (stateOf (now (slots .entry)) (now (flags .entry)) (now (area .entry)) memory) ⌝ }
 {
+    let zeros = left - source.len();
     let place = place_of(address, front);
     let page = place.page;
     let at = place.at;
@@ -323,7 +364,7 @@ fn fill_source(
         let end = place_of(address, front + source.len());
         let past = end.page;
         let from = end.at;
-        return fill_pages(slots, flags, area, next, past, from, left - source.len(), 0);
+        return fill_pages(slots, flags, area, next, past, from, zeros, 0);
     }
     answer
 }

@@ -18,3 +18,6 @@ copy-once d s t u h k = cc
 
 pub fill-once : (d t u : List ℕ) (v : ℕ) → t ≡ filled (length d) v → u ≡ filled (length d) v → t ≡ u
 fill-once d t u v h k = cc
+
+pub least-once : (a b r q : ℕ) → r ≡ min a b → q ≡ min a b → r ≡ q
+least-once a b r q h k = cc

@@ -6,6 +6,7 @@ use native.Mathlib.Decide.{decLe}
 use native.Mathlib.Numerals.{add-one}
 use native.Mathlib.Omega.{arith}
 use mathlib.Core.List.{List, [], _∷_, _++_, append-assoc}
+use mathlib.Core.Logic.{_⊎_, inl, inr}
 use lib.ListN.{length, take, drop, getD, set, length-set, length-take, length-drop}
 use lib.Seq.{drop-set-add, drop-cons, length-take-le, take-take, sets, sets-eq, length-sets, set-out, take-all, take-set-le, drop-set-lt, getD-take, getD-drop}
 use Rattle.bits.specs.Rounding.{pageSize}
@@ -103,6 +104,20 @@ pub written-after : (s l : List ℕ) (at i : ℕ) → at + length l ≤ i → ge
 written-after s l at i h =
     let e : (t : List ℕ) → getD (drop i t) 0 0 ≡ getD t i 0 = λ t. rw (getD-drop, add-zero) in
     sym (e (written s at l)) ∙ rw (drop-written s l at i h) (e s)
+
+-- a byte that was stored, by its index
+pub written-in : (s l : List ℕ) (at i : ℕ) → at ≤ i → i < at + length l → at + length l ≤ length s
+    → getD (written s at l) i 0 ≡ getD l (i - at) 0
+written-in s l at i h k f =
+    ap (λ (j : ℕ). getD (written s at l) j 0) (omega arith)
+    ∙ sym (getD-drop at (written s at l) (i - at) 0)
+    ∙ sym (getD-take (length l) (drop at (written s at l)) (i - at) 0 (omega arith))
+    ∙ ap (λ (x : List ℕ). getD x (i - at) 0) (part-written s l at f)
+
+-- and one that was not: before or past what was stored
+pub written-out : (s l : List ℕ) (at i : ℕ) → (i < at) ⊎ (at + length l ≤ i) → getD (written s at l) i 0 ≡ getD s i 0
+written-out s l at i (inl h) = written-before s l at i h
+written-out s l at i (inr h) = written-after s l at i h
 
 -- a turn of `lay`: one store of those that are left
 pub lay-more : (s l t : List ℕ) (i k e : ℕ) → e ≡ min k (length l) → i < e

@@ -1,0 +1,2 @@
+-- What C functions hand out.
+pub mod Handed

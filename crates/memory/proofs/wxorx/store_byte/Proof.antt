@@ -1,0 +1,69 @@
+-- Lengths, no bytes, the check of permission, then the store.
+use borrow.Author.Needs.{needs}
+use Rattle.memory.specs.WXorX.{storeBytes, storeByte}
+use Rattle.memory.proofs.WriteOrExecute.{fills-none, fills-done, fills-denied}
+use Rattle.memory.proofs.Lengths.{fits-told, fit-not}
+use Rattle.memory.proofs.wxorx.store_byte.Statement.{statement}
+use Rattle.memory.proofs.wxorx.store_byte.Tie as tie
+
+storage-fits-requires : tie.Need-storage-fits-requires
+storage-fits-requires c κs = search needs
+
+returns : tie.Need-returns
+unfolding storeByte storeBytes
+returns c = search (needs, fit-not (λ n. n))
+
+returns-2 : tie.Need-returns-2
+returns-2 c = search (needs, fills-none)
+
+permits-bytes-requires : tie.Need-permits-bytes-requires
+permits-bytes-requires c κs = search needs
+
+is-done-requires : tie.Need-is-done-requires
+is-done-requires c κs = search needs
+
+fill-pages-requires : tie.Need-fill-pages-requires
+fill-pages-requires c κs = (search (needs, fits-told), search needs)
+
+same-length : tie.Need-same-length
+same-length c = search needs
+
+same-length-2 : tie.Need-same-length-2
+same-length-2 c = search needs
+
+same-length-3 : tie.Need-same-length-3
+same-length-3 c = search needs
+
+returns-3 : tie.Need-returns-3
+returns-3 c = search (needs, fills-done)
+
+same-length-4 : tie.Need-same-length-4
+same-length-4 c = search needs
+
+same-length-5 : tie.Need-same-length-5
+same-length-5 c = search needs
+
+same-length-6 : tie.Need-same-length-6
+same-length-6 c = search needs
+
+returns-4 : tie.Need-returns-4
+returns-4 c = search (needs, fills-denied)
+
+pub store-byte-spec : {M : Type 1} → statement M
+store-byte-spec =
+    tie.close
+    (tie.spec
+    storage-fits-requires
+    returns
+    returns-2
+    permits-bytes-requires
+    is-done-requires
+    fill-pages-requires
+    same-length
+    same-length-2
+    same-length-3
+    returns-3
+    same-length-4
+    same-length-5
+    same-length-6
+    returns-4)

@@ -1,0 +1,295 @@
+//! Times calls of the upstream Rust and of this port, made from Rust (docs/SPEED.md).
+//!
+//! A case is a round of equal calls. Both sides make it in turn, many times over, and a side's time is its best
+//! round. Each side pays for one call that is not inlined: of a function below, or of the archive. Every page is
+//! present, in the slot of its own number. No call may be refused, and in the end both memories hold the same bytes.
+//!
+//! It prints a line for each case: layer, call, bytes, nanoseconds a call of the Rust and of the port, and for whole
+//! pages those of memmove or memset alone. tools/bench runs it and prints the table.
+
+#[allow(dead_code)]
+mod archive;
+
+use archive::{Calls, Lent, SPARSE, Stored, Value, WXORX};
+use ckb_vm::memory::sparse::SparseMemory;
+use ckb_vm::memory::wxorx::WXorXMemory;
+use ckb_vm::{Bytes, Error, memory::Memory};
+use std::hint::black_box;
+use std::marker::PhantomData;
+use std::ptr;
+use std::time::Instant;
+
+const PAGE: usize = 4096;
+const PAGES: usize = 1024;
+const SIZE: usize = PAGES * PAGE;
+const SIZES: [usize; 5] = [1, 8, 64, PAGE, 16 * PAGE];
+/// Where the calls store and load, and the pages that are filled.
+const PLACE: usize = 8 * PAGE;
+const FILLED: usize = 512 * PAGE;
+const FILL: usize = 64 * PAGE;
+/// Where in a page the port's slots and the buffers start: where the allocator puts the upstream's pages.
+const START: usize = 16;
+const EXECUTABLE: u8 = 2;
+const ROUNDS: usize = 300;
+
+// ---- the upstream Rust: one call each that is not inlined
+
+#[inline(never)]
+fn store_bytes<M: Memory<REG = u64>>(memory: &mut M, address: u64, bytes: &[u8]) -> Result<(), Error> {
+    memory.store_bytes(address, bytes)
+}
+
+#[inline(never)]
+fn store_byte<M: Memory<REG = u64>>(memory: &mut M, address: u64, size: u64, value: u8) -> Result<(), Error> {
+    memory.store_byte(address, size, value)
+}
+
+#[inline(never)]
+fn load_bytes<M: Memory<REG = u64>>(memory: &mut M, address: u64, size: u64) -> Result<Bytes, Error> {
+    memory.load_bytes(address, size)
+}
+
+#[inline(never)]
+fn store64<M: Memory<REG = u64>>(memory: &mut M, address: u64, value: u64) -> Result<(), Error> {
+    memory.store64(&address, &value)
+}
+
+#[inline(never)]
+fn load64<M: Memory<REG = u64>>(memory: &mut M, address: u64) -> Result<u64, Error> {
+    memory.load64(&address)
+}
+
+#[inline(never)]
+fn init_pages<M: Memory<REG = u64>>(memory: &mut M, address: u64, size: u64, flag: u8) -> Result<(), Error> {
+    memory.init_pages(address, size, flag, None, 0)
+}
+
+// ---- both sides' layers
+
+trait Layer {
+    type Upstream: Memory<REG = u64>;
+    const CALLS: &'static Calls;
+    const NAME: &'static str;
+}
+
+struct Sparse;
+
+impl Layer for Sparse {
+    type Upstream = SparseMemory<u64>;
+    const CALLS: &'static Calls = &SPARSE;
+    const NAME: &'static str = "sparse";
+}
+
+struct WXorX;
+
+impl Layer for WXorX {
+    type Upstream = WXorXMemory<SparseMemory<u64>>;
+    const CALLS: &'static Calls = &WXORX;
+    const NAME: &'static str = "wxorx";
+}
+
+/// A memory of the port, as a host holds it.
+struct Port<'a, L> {
+    slots: &'a mut [u16],
+    flags: &'a mut [u8],
+    area: &'a mut [u8],
+    memory: archive::Memory,
+    layer: PhantomData<L>,
+}
+
+impl<L: Layer> Port<'_, L> {
+    fn lent(&mut self) -> Lent<'_> {
+        Lent { slots: self.slots, flags: self.flags, area: self.area }
+    }
+
+    fn keep(&mut self, stored: Stored) -> u32 {
+        self.memory.used = stored.used;
+        stored.number
+    }
+
+    fn store_bytes(&mut self, address: u64, bytes: &[u8]) -> u32 {
+        let memory = self.memory;
+        let stored = L::CALLS.store_bytes(self.lent(), bytes, memory, address);
+        self.keep(stored)
+    }
+
+    fn store_byte(&mut self, address: u64, size: u64, value: u8) -> u32 {
+        let memory = self.memory;
+        let stored = L::CALLS.store_byte(self.lent(), memory, address, size, value);
+        self.keep(stored)
+    }
+
+    fn load_bytes(&mut self, out: &mut [u8], address: u64, size: u64) -> u32 {
+        let memory = self.memory;
+        L::CALLS.load_bytes(self.lent(), out, memory, address, size)
+    }
+
+    fn store64(&mut self, address: u64, value: u64) -> u32 {
+        let memory = self.memory;
+        let stored = L::CALLS.store64(self.lent(), memory, address, value);
+        self.keep(stored)
+    }
+
+    fn load64(&mut self, address: u64) -> Value {
+        let memory = self.memory;
+        L::CALLS.load64(self.lent(), memory, address)
+    }
+
+    fn init_pages(&mut self, address: u64, size: u64, flag: u8) -> u32 {
+        let memory = self.memory;
+        let stored = L::CALLS.init_pages(self.lent(), &[], memory, address, size, flag, 0);
+        self.keep(stored)
+    }
+}
+
+// ---- rounds
+
+/// `length` bytes from START of a page on.
+fn block(all: &mut Vec<u8>, length: usize) -> &mut [u8] {
+    all.resize(length + 2 * PAGE, 0x5a);
+    let start = (START + PAGE - all.as_ptr() as usize % PAGE) % PAGE;
+    &mut all[start..start + length]
+}
+
+/// How many calls of that many bytes a round has: it takes some tens of microseconds.
+fn calls_of(bytes: usize) -> u64 {
+    (200_000 / (bytes as u64 + 100)).clamp(4, 2_000)
+}
+
+/// Nanoseconds a call of a round, lowered to those of this one.
+fn round(calls: u64, best: &mut f64, call: &mut impl FnMut(u64)) {
+    let start = Instant::now();
+    for i in 0..calls {
+        call(i);
+    }
+    *best = best.min(start.elapsed().as_nanos() as f64 / calls as f64);
+}
+
+/// The best rounds of the Rust, of the port and of what is beside them.
+fn race(calls: u64, mut rust: impl FnMut(u64), mut port: impl FnMut(u64), mut plain: impl FnMut(u64)) -> [f64; 3] {
+    let mut best = [f64::MAX; 3];
+    for _ in 0..ROUNDS {
+        round(calls, &mut best[0], &mut rust);
+        round(calls, &mut best[1], &mut port);
+        round(calls, &mut best[2], &mut plain);
+    }
+    best
+}
+
+fn nothing(_: u64) {}
+
+/// `plain` is what the third time is of; it is said for whole pages.
+fn say<L: Layer>(call: &str, bytes: usize, [rust, port, beside]: [f64; 3], plain: &str) {
+    print!("{} {call} {bytes} {rust:.2} {port:.2}", L::NAME);
+    if bytes >= PAGE { println!(" {beside:.2} {plain}") } else { println!() }
+}
+
+// ---- the cases
+
+fn time<L: Layer>() {
+    let mut rust = L::Upstream::new_with_memory(SIZE);
+    let (mut slots, mut flags, mut area) = (vec![0; PAGES], vec![0; PAGES], Vec::new());
+    let (slots, flags, area) = (&mut slots[..], &mut flags[..], block(&mut area, SIZE));
+    let place = area[PLACE..].as_mut_ptr();
+    let filled = area[FILLED..].as_mut_ptr();
+    let fresh = L::CALLS.fresh(Lent { slots, flags, area }, SIZE as u64);
+    let mut port = Port::<L> { slots, flags, area, memory: fresh.memory, layer: PhantomData };
+    let mut refused = fresh.number | port.store_byte(0, SIZE as u64, 1);
+    let mut failed = store_byte(&mut rust, 0, SIZE as u64, 1).is_err();
+
+    let (mut source, mut out) = (Vec::new(), Vec::new());
+    let (source, out) = (block(&mut source, 16 * PAGE), block(&mut out, 16 * PAGE));
+    for (i, byte) in source.iter_mut().enumerate() {
+        *byte = (i * 7 + i / 256) as u8;
+    }
+    // no number of a call is a constant to the compiler
+    let at = black_box(PLACE as u64);
+
+    for n in SIZES {
+        let (calls, bytes) = (calls_of(n), black_box(&source[..n]));
+        let times = race(
+            calls,
+            |_| failed |= store_bytes(&mut rust, at, bytes).is_err(),
+            |_| refused |= port.store_bytes(at, bytes),
+            // n bytes of the area, and a source that is apart from it
+            |_| unsafe { ptr::copy(bytes.as_ptr(), black_box(place), n) },
+        );
+        say::<L>("store_bytes", n, times, "memmove");
+    }
+    for n in SIZES {
+        let (calls, size) = (calls_of(n), black_box(n as u64));
+        let times = race(
+            calls,
+            |_| failed |= store_byte(&mut rust, at, size, 7).is_err(),
+            |_| refused |= port.store_byte(at, size, 7),
+            |_| unsafe { ptr::write_bytes(black_box(place), 7, n) },
+        );
+        say::<L>("store_byte", n, times, "memset");
+    }
+    let to = out.as_mut_ptr();
+    for n in SIZES {
+        let (calls, size) = (calls_of(n), black_box(n as u64));
+        let times = race(
+            calls,
+            |_| failed |= black_box(load_bytes(&mut rust, at, size)).is_err(),
+            |_| refused |= port.load_bytes(out, at, size),
+            |_| unsafe { ptr::copy(black_box(place), to, n) },
+        );
+        say::<L>("load_bytes", n, times, "memmove");
+    }
+
+    let words = (PAGE / 8) as u64;
+    let times = race(
+        words,
+        |i| failed |= store64(&mut rust, at + 8 * i, i).is_err(),
+        |i| refused |= port.store64(at + 8 * i, i),
+        nothing,
+    );
+    say::<L>("store64", 8, times, "");
+    let (mut here, mut there) = (0u64, 0u64);
+    let mut add = |loaded: Result<u64, Error>| match loaded {
+        Ok(value) => here = here.wrapping_add(value),
+        Err(_) => failed = true,
+    };
+    let mut also = |loaded: Value| {
+        there = there.wrapping_add(loaded.value);
+        refused |= loaded.number;
+    };
+    let times = race(words, |i| add(load64(&mut rust, at + 8 * i)), |i| also(port.load64(at + 8 * i)), nothing);
+    say::<L>("load64", 8, times, "");
+
+    let (from, size, flag) = (black_box(FILLED as u64), black_box(FILL as u64), black_box(EXECUTABLE));
+    let times = race(
+        calls_of(FILL),
+        |_| failed |= init_pages(&mut rust, from, size, flag).is_err(),
+        |_| refused |= port.init_pages(from, size, flag),
+        |_| unsafe { ptr::write_bytes(black_box(filled), 0, FILL) },
+    );
+    say::<L>("init_pages", FILL, times, "memset");
+
+    // over the end of a page: not among the cases of the goal
+    let (end, bytes) = (at + PAGE as u64, &source[..64]);
+    let times = race(
+        calls_of(64),
+        |_| failed |= store_bytes(&mut rust, end - 32, bytes).is_err(),
+        |_| refused |= port.store_bytes(end - 32, bytes),
+        nothing,
+    );
+    say::<L>("store_bytes,across", 64, times, "");
+    let times = race(
+        words,
+        |i| failed |= store64(&mut rust, end - 4, i).is_err(),
+        |i| refused |= port.store64(end - 4, i),
+        nothing,
+    );
+    say::<L>("store64,across", 8, times, "");
+
+    assert!(!failed && refused == 0, "a call was refused");
+    assert!(here == there, "the numbers loaded differ");
+    assert!(rust.load_bytes(0, SIZE as u64).is_ok_and(|bytes| bytes[..] == port.area[..]), "the bytes differ");
+}
+
+fn main() {
+    time::<Sparse>();
+    time::<WXorX>();
+}

@@ -194,6 +194,8 @@ fn time<L: Layer>() {
     let filled = area[FILLED..].as_mut_ptr();
     let fresh = L::CALLS.fresh(Lent { slots, flags, area }, SIZE as u64);
     let mut port = Port::<L> { slots, flags, area, memory: fresh.memory, layer: PhantomData };
+    // in memory, as a host's state is, and not in registers
+    let port = black_box(&mut port);
     let mut refused = fresh.number | port.store_byte(0, SIZE as u64, 1);
     let mut failed = store_byte(&mut rust, 0, SIZE as u64, 1).is_err();
 

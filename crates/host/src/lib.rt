@@ -1,8 +1,8 @@
 // What a host links: the calls as C functions, for hosts/ and for other programs.
 //
 // Each hands on one call of a crate below with that call's promise. An outcome is handed out as its number (document 01's
-// table). A slice is a pointer and a length. A memory's size and its slots in use go in as numbers; a store hands back the
-// slots then in use, and nothing else of a memory changes. The reservation stays with the host.
+// table). A slice is a pointer and a length. A memory goes in as two numbers: its size (`extent`), and last of all its slots in
+// use. A store hands back the slots then in use, and nothing else of a memory changes. The reservation stays with the host.
 ghost use mathlib.Core.Path.{_≡_};
 ghost use Prim.Native.Nat.{_/_};
 ghost use lib.ListN.{length};
@@ -117,16 +117,16 @@ pub extern "C" fn latchpebble_check_permission(
     slots: &[u16],
     flags: &[u8],
     area: &[u8],
-    memory_size: u64,
-    used: u64,
+    extent: u64,
     first: u64,
     last: u64,
     flag: u8,
+    used: u64,
 ) -> u32
-    ensures { λ r. ⌜ (r, lent (now (slots .entry)) (now (flags .entry)) (now (area .entry)) memory_size used) ≡ run does (checkPermission first last flag) (lent (now (slots .entry)) (now (flags .entry)) (now (area .entry)) memory_size used) ⌝ }
+    ensures { λ r. ⌜ (r, lent (now (slots .entry)) (now (flags .entry)) (now (area .entry)) extent used) ≡ run does (checkPermission first last flag) (lent (now (slots .entry)) (now (flags .entry)) (now (area .entry)) extent used) ⌝ }
 {
     let memory = Memory {
-        size: memory_size,
+        size: extent,
         used,
         reservation: 0,
     };
@@ -138,15 +138,15 @@ pub extern "C" fn latchpebble_set_dirty(
     slots: &[u16],
     flags: &mut [u8],
     area: &[u8],
-    memory_size: u64,
-    used: u64,
+    extent: u64,
     first: u64,
     last: u64,
+    used: u64,
 ) -> u32
-    ensures { λ r. ⌜ (r, lent (now (slots .entry)) (now (flags .exit)) (now (area .entry)) memory_size used) ≡ run does (setDirty first last) (lent (now (slots .entry)) (now (flags .entry)) (now (area .entry)) memory_size used) ⌝ }
+    ensures { λ r. ⌜ (r, lent (now (slots .entry)) (now (flags .exit)) (now (area .entry)) extent used) ≡ run does (setDirty first last) (lent (now (slots .entry)) (now (flags .entry)) (now (area .entry)) extent used) ⌝ }
 {
     let memory = Memory {
-        size: memory_size,
+        size: extent,
         used,
         reservation: 0,
     };
@@ -159,16 +159,16 @@ pub extern "C" fn latchpebble_fill_page_data(
     flags: &mut [u8],
     area: &mut [u8],
     source: &[u8],
-    memory_size: u64,
-    used: u64,
+    extent: u64,
     address: u64,
     size: u64,
     lead: u64,
+    used: u64,
 ) -> Stored
-    ensures { λ r. ⌜ handed r (now (slots .exit)) (now (flags .exit)) (now (area .exit)) ≡ left (run does (fillPageData address size lead (now (source .entry))) (lent (now (slots .entry)) (now (flags .entry)) (now (area .entry)) memory_size used)) ⌝ }
+    ensures { λ r. ⌜ handed r (now (slots .exit)) (now (flags .exit)) (now (area .exit)) ≡ left (run does (fillPageData address size lead (now (source .entry))) (lent (now (slots .entry)) (now (flags .entry)) (now (area .entry)) extent used)) ⌝ }
 {
     let memory = Memory {
-        size: memory_size,
+        size: extent,
         used,
         reservation: 0,
     };
@@ -193,17 +193,17 @@ pub extern "C" fn latchpebble_sparse_init_pages(
     flags: &mut [u8],
     area: &mut [u8],
     source: &[u8],
-    memory_size: u64,
-    used: u64,
+    extent: u64,
     address: u64,
     size: u64,
     flag: u8,
     lead: u64,
+    used: u64,
 ) -> Stored
-    ensures { λ r. ⌜ handed r (now (slots .exit)) (now (flags .exit)) (now (area .exit)) ≡ left (run does (fillPageData address size lead (now (source .entry))) (lent (now (slots .entry)) (now (flags .entry)) (now (area .entry)) memory_size used)) ⌝ }
+    ensures { λ r. ⌜ handed r (now (slots .exit)) (now (flags .exit)) (now (area .exit)) ≡ left (run does (fillPageData address size lead (now (source .entry))) (lent (now (slots .entry)) (now (flags .entry)) (now (area .entry)) extent used)) ⌝ }
 {
     let memory = Memory {
-        size: memory_size,
+        size: extent,
         used,
         reservation: 0,
     };
@@ -225,14 +225,14 @@ pub extern "C" fn latchpebble_sparse_fetch_flag(
     slots: &[u16],
     flags: &[u8],
     area: &[u8],
-    memory_size: u64,
-    used: u64,
+    extent: u64,
     page: u64,
+    used: u64,
 ) -> Value
-    ensures { λ r. ⌜ (handedValue r, lent (now (slots .entry)) (now (flags .entry)) (now (area .entry)) memory_size used) ≡ run does (fetchFlag page) (lent (now (slots .entry)) (now (flags .entry)) (now (area .entry)) memory_size used) ⌝ }
+    ensures { λ r. ⌜ (handedValue r, lent (now (slots .entry)) (now (flags .entry)) (now (area .entry)) extent used) ≡ run does (fetchFlag page) (lent (now (slots .entry)) (now (flags .entry)) (now (area .entry)) extent used) ⌝ }
 {
     let memory = Memory {
-        size: memory_size,
+        size: extent,
         used,
         reservation: 0,
     };
@@ -244,15 +244,15 @@ pub extern "C" fn latchpebble_sparse_set_flag(
     slots: &[u16],
     flags: &mut [u8],
     area: &[u8],
-    memory_size: u64,
-    used: u64,
+    extent: u64,
     page: u64,
     flag: u8,
+    used: u64,
 ) -> u32
-    ensures { λ r. ⌜ (r, lent (now (slots .entry)) (now (flags .exit)) (now (area .entry)) memory_size used) ≡ run does (setFlag page flag) (lent (now (slots .entry)) (now (flags .entry)) (now (area .entry)) memory_size used) ⌝ }
+    ensures { λ r. ⌜ (r, lent (now (slots .entry)) (now (flags .exit)) (now (area .entry)) extent used) ≡ run does (setFlag page flag) (lent (now (slots .entry)) (now (flags .entry)) (now (area .entry)) extent used) ⌝ }
 {
     let memory = Memory {
-        size: memory_size,
+        size: extent,
         used,
         reservation: 0,
     };
@@ -264,15 +264,15 @@ pub extern "C" fn latchpebble_sparse_clear_flag(
     slots: &[u16],
     flags: &mut [u8],
     area: &[u8],
-    memory_size: u64,
-    used: u64,
+    extent: u64,
     page: u64,
     flag: u8,
+    used: u64,
 ) -> u32
-    ensures { λ r. ⌜ (r, lent (now (slots .entry)) (now (flags .exit)) (now (area .entry)) memory_size used) ≡ clearFlag page flag (lent (now (slots .entry)) (now (flags .entry)) (now (area .entry)) memory_size used) ⌝ }
+    ensures { λ r. ⌜ (r, lent (now (slots .entry)) (now (flags .exit)) (now (area .entry)) extent used) ≡ clearFlag page flag (lent (now (slots .entry)) (now (flags .entry)) (now (area .entry)) extent used) ⌝ }
 {
     let memory = Memory {
-        size: memory_size,
+        size: extent,
         used,
         reservation: 0,
     };
@@ -298,16 +298,16 @@ pub extern "C" fn latchpebble_sparse_store_byte(
     slots: &mut [u16],
     flags: &mut [u8],
     area: &mut [u8],
-    memory_size: u64,
-    used: u64,
+    extent: u64,
     address: u64,
     size: u64,
     value: u8,
+    used: u64,
 ) -> Stored
-    ensures { λ r. ⌜ handed r (now (slots .exit)) (now (flags .exit)) (now (area .exit)) ≡ left (run does (storeByte address size value) (lent (now (slots .entry)) (now (flags .entry)) (now (area .entry)) memory_size used)) ⌝ }
+    ensures { λ r. ⌜ handed r (now (slots .exit)) (now (flags .exit)) (now (area .exit)) ≡ left (run does (storeByte address size value) (lent (now (slots .entry)) (now (flags .entry)) (now (area .entry)) extent used)) ⌝ }
 {
     let memory = Memory {
-        size: memory_size,
+        size: extent,
         used,
         reservation: 0,
     };
@@ -320,14 +320,14 @@ pub extern "C" fn latchpebble_sparse_store_bytes(
     flags: &mut [u8],
     area: &mut [u8],
     bytes: &[u8],
-    memory_size: u64,
-    used: u64,
+    extent: u64,
     address: u64,
+    used: u64,
 ) -> Stored
-    ensures { λ r. ⌜ handed r (now (slots .exit)) (now (flags .exit)) (now (area .exit)) ≡ left (run does (storeBytes address (now (bytes .entry))) (lent (now (slots .entry)) (now (flags .entry)) (now (area .entry)) memory_size used)) ⌝ }
+    ensures { λ r. ⌜ handed r (now (slots .exit)) (now (flags .exit)) (now (area .exit)) ≡ left (run does (storeBytes address (now (bytes .entry))) (lent (now (slots .entry)) (now (flags .entry)) (now (area .entry)) extent used)) ⌝ }
 {
     let memory = Memory {
-        size: memory_size,
+        size: extent,
         used,
         reservation: 0,
     };
@@ -339,15 +339,15 @@ pub extern "C" fn latchpebble_sparse_store8(
     slots: &mut [u16],
     flags: &mut [u8],
     area: &mut [u8],
-    memory_size: u64,
-    used: u64,
+    extent: u64,
     address: u64,
     value: u64,
+    used: u64,
 ) -> Stored
-    ensures { λ r. ⌜ handed r (now (slots .exit)) (now (flags .exit)) (now (area .exit)) ≡ left (run does (storeWide 1 address value) (lent (now (slots .entry)) (now (flags .entry)) (now (area .entry)) memory_size used)) ⌝ }
+    ensures { λ r. ⌜ handed r (now (slots .exit)) (now (flags .exit)) (now (area .exit)) ≡ left (run does (storeWide 1 address value) (lent (now (slots .entry)) (now (flags .entry)) (now (area .entry)) extent used)) ⌝ }
 {
     let memory = Memory {
-        size: memory_size,
+        size: extent,
         used,
         reservation: 0,
     };
@@ -359,15 +359,15 @@ pub extern "C" fn latchpebble_sparse_store16(
     slots: &mut [u16],
     flags: &mut [u8],
     area: &mut [u8],
-    memory_size: u64,
-    used: u64,
+    extent: u64,
     address: u64,
     value: u64,
+    used: u64,
 ) -> Stored
-    ensures { λ r. ⌜ handed r (now (slots .exit)) (now (flags .exit)) (now (area .exit)) ≡ left (run does (storeWide 2 address value) (lent (now (slots .entry)) (now (flags .entry)) (now (area .entry)) memory_size used)) ⌝ }
+    ensures { λ r. ⌜ handed r (now (slots .exit)) (now (flags .exit)) (now (area .exit)) ≡ left (run does (storeWide 2 address value) (lent (now (slots .entry)) (now (flags .entry)) (now (area .entry)) extent used)) ⌝ }
 {
     let memory = Memory {
-        size: memory_size,
+        size: extent,
         used,
         reservation: 0,
     };
@@ -379,15 +379,15 @@ pub extern "C" fn latchpebble_sparse_store32(
     slots: &mut [u16],
     flags: &mut [u8],
     area: &mut [u8],
-    memory_size: u64,
-    used: u64,
+    extent: u64,
     address: u64,
     value: u64,
+    used: u64,
 ) -> Stored
-    ensures { λ r. ⌜ handed r (now (slots .exit)) (now (flags .exit)) (now (area .exit)) ≡ left (run does (storeWide 4 address value) (lent (now (slots .entry)) (now (flags .entry)) (now (area .entry)) memory_size used)) ⌝ }
+    ensures { λ r. ⌜ handed r (now (slots .exit)) (now (flags .exit)) (now (area .exit)) ≡ left (run does (storeWide 4 address value) (lent (now (slots .entry)) (now (flags .entry)) (now (area .entry)) extent used)) ⌝ }
 {
     let memory = Memory {
-        size: memory_size,
+        size: extent,
         used,
         reservation: 0,
     };
@@ -399,15 +399,15 @@ pub extern "C" fn latchpebble_sparse_store64(
     slots: &mut [u16],
     flags: &mut [u8],
     area: &mut [u8],
-    memory_size: u64,
-    used: u64,
+    extent: u64,
     address: u64,
     value: u64,
+    used: u64,
 ) -> Stored
-    ensures { λ r. ⌜ handed r (now (slots .exit)) (now (flags .exit)) (now (area .exit)) ≡ left (run does (storeWide 8 address value) (lent (now (slots .entry)) (now (flags .entry)) (now (area .entry)) memory_size used)) ⌝ }
+    ensures { λ r. ⌜ handed r (now (slots .exit)) (now (flags .exit)) (now (area .exit)) ≡ left (run does (storeWide 8 address value) (lent (now (slots .entry)) (now (flags .entry)) (now (area .entry)) extent used)) ⌝ }
 {
     let memory = Memory {
-        size: memory_size,
+        size: extent,
         used,
         reservation: 0,
     };
@@ -419,14 +419,14 @@ pub extern "C" fn latchpebble_sparse_load8(
     slots: &[u16],
     flags: &[u8],
     area: &[u8],
-    memory_size: u64,
-    used: u64,
+    extent: u64,
     address: u64,
+    used: u64,
 ) -> Value
-    ensures { λ r. ⌜ (handedValue r, lent (now (slots .entry)) (now (flags .entry)) (now (area .entry)) memory_size used) ≡ run does (loadWide 1 address) (lent (now (slots .entry)) (now (flags .entry)) (now (area .entry)) memory_size used) ⌝ }
+    ensures { λ r. ⌜ (handedValue r, lent (now (slots .entry)) (now (flags .entry)) (now (area .entry)) extent used) ≡ run does (loadWide 1 address) (lent (now (slots .entry)) (now (flags .entry)) (now (area .entry)) extent used) ⌝ }
 {
     let memory = Memory {
-        size: memory_size,
+        size: extent,
         used,
         reservation: 0,
     };
@@ -438,14 +438,14 @@ pub extern "C" fn latchpebble_sparse_load16(
     slots: &[u16],
     flags: &[u8],
     area: &[u8],
-    memory_size: u64,
-    used: u64,
+    extent: u64,
     address: u64,
+    used: u64,
 ) -> Value
-    ensures { λ r. ⌜ (handedValue r, lent (now (slots .entry)) (now (flags .entry)) (now (area .entry)) memory_size used) ≡ run does (loadWide 2 address) (lent (now (slots .entry)) (now (flags .entry)) (now (area .entry)) memory_size used) ⌝ }
+    ensures { λ r. ⌜ (handedValue r, lent (now (slots .entry)) (now (flags .entry)) (now (area .entry)) extent used) ≡ run does (loadWide 2 address) (lent (now (slots .entry)) (now (flags .entry)) (now (area .entry)) extent used) ⌝ }
 {
     let memory = Memory {
-        size: memory_size,
+        size: extent,
         used,
         reservation: 0,
     };
@@ -457,14 +457,14 @@ pub extern "C" fn latchpebble_sparse_load32(
     slots: &[u16],
     flags: &[u8],
     area: &[u8],
-    memory_size: u64,
-    used: u64,
+    extent: u64,
     address: u64,
+    used: u64,
 ) -> Value
-    ensures { λ r. ⌜ (handedValue r, lent (now (slots .entry)) (now (flags .entry)) (now (area .entry)) memory_size used) ≡ run does (loadWide 4 address) (lent (now (slots .entry)) (now (flags .entry)) (now (area .entry)) memory_size used) ⌝ }
+    ensures { λ r. ⌜ (handedValue r, lent (now (slots .entry)) (now (flags .entry)) (now (area .entry)) extent used) ≡ run does (loadWide 4 address) (lent (now (slots .entry)) (now (flags .entry)) (now (area .entry)) extent used) ⌝ }
 {
     let memory = Memory {
-        size: memory_size,
+        size: extent,
         used,
         reservation: 0,
     };
@@ -476,14 +476,14 @@ pub extern "C" fn latchpebble_sparse_load64(
     slots: &[u16],
     flags: &[u8],
     area: &[u8],
-    memory_size: u64,
-    used: u64,
+    extent: u64,
     address: u64,
+    used: u64,
 ) -> Value
-    ensures { λ r. ⌜ (handedValue r, lent (now (slots .entry)) (now (flags .entry)) (now (area .entry)) memory_size used) ≡ run does (loadWide 8 address) (lent (now (slots .entry)) (now (flags .entry)) (now (area .entry)) memory_size used) ⌝ }
+    ensures { λ r. ⌜ (handedValue r, lent (now (slots .entry)) (now (flags .entry)) (now (area .entry)) extent used) ≡ run does (loadWide 8 address) (lent (now (slots .entry)) (now (flags .entry)) (now (area .entry)) extent used) ⌝ }
 {
     let memory = Memory {
-        size: memory_size,
+        size: extent,
         used,
         reservation: 0,
     };
@@ -495,14 +495,14 @@ pub extern "C" fn latchpebble_sparse_execute_load16(
     slots: &[u16],
     flags: &[u8],
     area: &[u8],
-    memory_size: u64,
-    used: u64,
+    extent: u64,
     address: u64,
+    used: u64,
 ) -> Value
-    ensures { λ r. ⌜ (handedValue r, lent (now (slots .entry)) (now (flags .entry)) (now (area .entry)) memory_size used) ≡ run does (loadWide 2 address) (lent (now (slots .entry)) (now (flags .entry)) (now (area .entry)) memory_size used) ⌝ }
+    ensures { λ r. ⌜ (handedValue r, lent (now (slots .entry)) (now (flags .entry)) (now (area .entry)) extent used) ≡ run does (loadWide 2 address) (lent (now (slots .entry)) (now (flags .entry)) (now (area .entry)) extent used) ⌝ }
 {
     let memory = Memory {
-        size: memory_size,
+        size: extent,
         used,
         reservation: 0,
     };
@@ -514,14 +514,14 @@ pub extern "C" fn latchpebble_sparse_execute_load32(
     slots: &[u16],
     flags: &[u8],
     area: &[u8],
-    memory_size: u64,
-    used: u64,
+    extent: u64,
     address: u64,
+    used: u64,
 ) -> Value
-    ensures { λ r. ⌜ (handedValue r, lent (now (slots .entry)) (now (flags .entry)) (now (area .entry)) memory_size used) ≡ run does (loadWide 4 address) (lent (now (slots .entry)) (now (flags .entry)) (now (area .entry)) memory_size used) ⌝ }
+    ensures { λ r. ⌜ (handedValue r, lent (now (slots .entry)) (now (flags .entry)) (now (area .entry)) extent used) ≡ run does (loadWide 4 address) (lent (now (slots .entry)) (now (flags .entry)) (now (area .entry)) extent used) ⌝ }
 {
     let memory = Memory {
-        size: memory_size,
+        size: extent,
         used,
         reservation: 0,
     };
@@ -534,15 +534,15 @@ pub extern "C" fn latchpebble_sparse_load_bytes(
     flags: &[u8],
     area: &[u8],
     out: &mut [u8],
-    memory_size: u64,
-    used: u64,
+    extent: u64,
     address: u64,
     size: u64,
+    used: u64,
 ) -> u32
-    ensures { λ r. ⌜ wrote r 0 (now (out .exit)) (lent (now (slots .entry)) (now (flags .entry)) (now (area .entry)) memory_size used) ≡ laid (now (out .entry)) (run does (loadBytes address size (length (now (out .entry)))) (lent (now (slots .entry)) (now (flags .entry)) (now (area .entry)) memory_size used)) ⌝ }
+    ensures { λ r. ⌜ wrote r 0 (now (out .exit)) (lent (now (slots .entry)) (now (flags .entry)) (now (area .entry)) extent used) ≡ laid (now (out .entry)) (run does (loadBytes address size (length (now (out .entry)))) (lent (now (slots .entry)) (now (flags .entry)) (now (area .entry)) extent used)) ⌝ }
 {
     let memory = Memory {
-        size: memory_size,
+        size: extent,
         used,
         reservation: 0,
     };
@@ -555,14 +555,14 @@ pub extern "C" fn latchpebble_sparse_load_c_string(
     flags: &[u8],
     area: &[u8],
     out: &mut [u8],
-    memory_size: u64,
-    used: u64,
+    extent: u64,
     address: u64,
+    used: u64,
 ) -> Value
-    ensures { λ r. ⌜ wrote (r .number) (r .value) (now (out .exit)) (lent (now (slots .entry)) (now (flags .entry)) (now (area .entry)) memory_size used) ≡ laid (now (out .entry)) (run does (loadCString address (length (now (out .entry)))) (lent (now (slots .entry)) (now (flags .entry)) (now (area .entry)) memory_size used)) ⌝ }
+    ensures { λ r. ⌜ wrote (r .number) (r .value) (now (out .exit)) (lent (now (slots .entry)) (now (flags .entry)) (now (area .entry)) extent used) ≡ laid (now (out .entry)) (run does (loadCString address (length (now (out .entry)))) (lent (now (slots .entry)) (now (flags .entry)) (now (area .entry)) extent used)) ⌝ }
 {
     let memory = Memory {
-        size: memory_size,
+        size: extent,
         used,
         reservation: 0,
     };
@@ -601,17 +601,17 @@ pub extern "C" fn latchpebble_wxorx_init_pages(
     flags: &mut [u8],
     area: &mut [u8],
     source: &[u8],
-    memory_size: u64,
-    used: u64,
+    extent: u64,
     address: u64,
     size: u64,
     flag: u8,
     lead: u64,
+    used: u64,
 ) -> Stored
-    ensures { λ r. ⌜ handed r (now (slots .exit)) (now (flags .exit)) (now (area .exit)) ≡ left (run does (wx.initPages address size flag lead (now (source .entry))) (lent (now (slots .entry)) (now (flags .entry)) (now (area .entry)) memory_size used)) ⌝ }
+    ensures { λ r. ⌜ handed r (now (slots .exit)) (now (flags .exit)) (now (area .exit)) ≡ left (run does (wx.initPages address size flag lead (now (source .entry))) (lent (now (slots .entry)) (now (flags .entry)) (now (area .entry)) extent used)) ⌝ }
 {
     let memory = Memory {
-        size: memory_size,
+        size: extent,
         used,
         reservation: 0,
     };
@@ -633,14 +633,14 @@ pub extern "C" fn latchpebble_wxorx_fetch_flag(
     slots: &[u16],
     flags: &[u8],
     area: &[u8],
-    memory_size: u64,
-    used: u64,
+    extent: u64,
     page: u64,
+    used: u64,
 ) -> Value
-    ensures { λ r. ⌜ (handedValue r, lent (now (slots .entry)) (now (flags .entry)) (now (area .entry)) memory_size used) ≡ run does (fetchFlag page) (lent (now (slots .entry)) (now (flags .entry)) (now (area .entry)) memory_size used) ⌝ }
+    ensures { λ r. ⌜ (handedValue r, lent (now (slots .entry)) (now (flags .entry)) (now (area .entry)) extent used) ≡ run does (fetchFlag page) (lent (now (slots .entry)) (now (flags .entry)) (now (area .entry)) extent used) ⌝ }
 {
     let memory = Memory {
-        size: memory_size,
+        size: extent,
         used,
         reservation: 0,
     };
@@ -652,15 +652,15 @@ pub extern "C" fn latchpebble_wxorx_set_flag(
     slots: &[u16],
     flags: &mut [u8],
     area: &[u8],
-    memory_size: u64,
-    used: u64,
+    extent: u64,
     page: u64,
     flag: u8,
+    used: u64,
 ) -> u32
-    ensures { λ r. ⌜ (r, lent (now (slots .entry)) (now (flags .exit)) (now (area .entry)) memory_size used) ≡ run does (setFlag page flag) (lent (now (slots .entry)) (now (flags .entry)) (now (area .entry)) memory_size used) ⌝ }
+    ensures { λ r. ⌜ (r, lent (now (slots .entry)) (now (flags .exit)) (now (area .entry)) extent used) ≡ run does (setFlag page flag) (lent (now (slots .entry)) (now (flags .entry)) (now (area .entry)) extent used) ⌝ }
 {
     let memory = Memory {
-        size: memory_size,
+        size: extent,
         used,
         reservation: 0,
     };
@@ -672,15 +672,15 @@ pub extern "C" fn latchpebble_wxorx_clear_flag(
     slots: &[u16],
     flags: &mut [u8],
     area: &[u8],
-    memory_size: u64,
-    used: u64,
+    extent: u64,
     page: u64,
     flag: u8,
+    used: u64,
 ) -> u32
-    ensures { λ r. ⌜ (r, lent (now (slots .entry)) (now (flags .exit)) (now (area .entry)) memory_size used) ≡ clearFlag page flag (lent (now (slots .entry)) (now (flags .entry)) (now (area .entry)) memory_size used) ⌝ }
+    ensures { λ r. ⌜ (r, lent (now (slots .entry)) (now (flags .exit)) (now (area .entry)) extent used) ≡ clearFlag page flag (lent (now (slots .entry)) (now (flags .entry)) (now (area .entry)) extent used) ⌝ }
 {
     let memory = Memory {
-        size: memory_size,
+        size: extent,
         used,
         reservation: 0,
     };
@@ -706,16 +706,16 @@ pub extern "C" fn latchpebble_wxorx_store_byte(
     slots: &mut [u16],
     flags: &mut [u8],
     area: &mut [u8],
-    memory_size: u64,
-    used: u64,
+    extent: u64,
     address: u64,
     size: u64,
     value: u8,
+    used: u64,
 ) -> Stored
-    ensures { λ r. ⌜ handed r (now (slots .exit)) (now (flags .exit)) (now (area .exit)) ≡ left (run does (wx.storeByte address size value) (lent (now (slots .entry)) (now (flags .entry)) (now (area .entry)) memory_size used)) ⌝ }
+    ensures { λ r. ⌜ handed r (now (slots .exit)) (now (flags .exit)) (now (area .exit)) ≡ left (run does (wx.storeByte address size value) (lent (now (slots .entry)) (now (flags .entry)) (now (area .entry)) extent used)) ⌝ }
 {
     let memory = Memory {
-        size: memory_size,
+        size: extent,
         used,
         reservation: 0,
     };
@@ -728,14 +728,14 @@ pub extern "C" fn latchpebble_wxorx_store_bytes(
     flags: &mut [u8],
     area: &mut [u8],
     bytes: &[u8],
-    memory_size: u64,
-    used: u64,
+    extent: u64,
     address: u64,
+    used: u64,
 ) -> Stored
-    ensures { λ r. ⌜ handed r (now (slots .exit)) (now (flags .exit)) (now (area .exit)) ≡ left (run does (wx.storeBytes address (now (bytes .entry))) (lent (now (slots .entry)) (now (flags .entry)) (now (area .entry)) memory_size used)) ⌝ }
+    ensures { λ r. ⌜ handed r (now (slots .exit)) (now (flags .exit)) (now (area .exit)) ≡ left (run does (wx.storeBytes address (now (bytes .entry))) (lent (now (slots .entry)) (now (flags .entry)) (now (area .entry)) extent used)) ⌝ }
 {
     let memory = Memory {
-        size: memory_size,
+        size: extent,
         used,
         reservation: 0,
     };
@@ -747,15 +747,15 @@ pub extern "C" fn latchpebble_wxorx_store8(
     slots: &mut [u16],
     flags: &mut [u8],
     area: &mut [u8],
-    memory_size: u64,
-    used: u64,
+    extent: u64,
     address: u64,
     value: u64,
+    used: u64,
 ) -> Stored
-    ensures { λ r. ⌜ handed r (now (slots .exit)) (now (flags .exit)) (now (area .exit)) ≡ left (run does (wx.storeWide 1 address value) (lent (now (slots .entry)) (now (flags .entry)) (now (area .entry)) memory_size used)) ⌝ }
+    ensures { λ r. ⌜ handed r (now (slots .exit)) (now (flags .exit)) (now (area .exit)) ≡ left (run does (wx.storeWide 1 address value) (lent (now (slots .entry)) (now (flags .entry)) (now (area .entry)) extent used)) ⌝ }
 {
     let memory = Memory {
-        size: memory_size,
+        size: extent,
         used,
         reservation: 0,
     };
@@ -767,15 +767,15 @@ pub extern "C" fn latchpebble_wxorx_store16(
     slots: &mut [u16],
     flags: &mut [u8],
     area: &mut [u8],
-    memory_size: u64,
-    used: u64,
+    extent: u64,
     address: u64,
     value: u64,
+    used: u64,
 ) -> Stored
-    ensures { λ r. ⌜ handed r (now (slots .exit)) (now (flags .exit)) (now (area .exit)) ≡ left (run does (wx.storeWide 2 address value) (lent (now (slots .entry)) (now (flags .entry)) (now (area .entry)) memory_size used)) ⌝ }
+    ensures { λ r. ⌜ handed r (now (slots .exit)) (now (flags .exit)) (now (area .exit)) ≡ left (run does (wx.storeWide 2 address value) (lent (now (slots .entry)) (now (flags .entry)) (now (area .entry)) extent used)) ⌝ }
 {
     let memory = Memory {
-        size: memory_size,
+        size: extent,
         used,
         reservation: 0,
     };
@@ -787,15 +787,15 @@ pub extern "C" fn latchpebble_wxorx_store32(
     slots: &mut [u16],
     flags: &mut [u8],
     area: &mut [u8],
-    memory_size: u64,
-    used: u64,
+    extent: u64,
     address: u64,
     value: u64,
+    used: u64,
 ) -> Stored
-    ensures { λ r. ⌜ handed r (now (slots .exit)) (now (flags .exit)) (now (area .exit)) ≡ left (run does (wx.storeWide 4 address value) (lent (now (slots .entry)) (now (flags .entry)) (now (area .entry)) memory_size used)) ⌝ }
+    ensures { λ r. ⌜ handed r (now (slots .exit)) (now (flags .exit)) (now (area .exit)) ≡ left (run does (wx.storeWide 4 address value) (lent (now (slots .entry)) (now (flags .entry)) (now (area .entry)) extent used)) ⌝ }
 {
     let memory = Memory {
-        size: memory_size,
+        size: extent,
         used,
         reservation: 0,
     };
@@ -807,15 +807,15 @@ pub extern "C" fn latchpebble_wxorx_store64(
     slots: &mut [u16],
     flags: &mut [u8],
     area: &mut [u8],
-    memory_size: u64,
-    used: u64,
+    extent: u64,
     address: u64,
     value: u64,
+    used: u64,
 ) -> Stored
-    ensures { λ r. ⌜ handed r (now (slots .exit)) (now (flags .exit)) (now (area .exit)) ≡ left (run does (wx.storeWide 8 address value) (lent (now (slots .entry)) (now (flags .entry)) (now (area .entry)) memory_size used)) ⌝ }
+    ensures { λ r. ⌜ handed r (now (slots .exit)) (now (flags .exit)) (now (area .exit)) ≡ left (run does (wx.storeWide 8 address value) (lent (now (slots .entry)) (now (flags .entry)) (now (area .entry)) extent used)) ⌝ }
 {
     let memory = Memory {
-        size: memory_size,
+        size: extent,
         used,
         reservation: 0,
     };
@@ -827,14 +827,14 @@ pub extern "C" fn latchpebble_wxorx_load8(
     slots: &[u16],
     flags: &[u8],
     area: &[u8],
-    memory_size: u64,
-    used: u64,
+    extent: u64,
     address: u64,
+    used: u64,
 ) -> Value
-    ensures { λ r. ⌜ (handedValue r, lent (now (slots .entry)) (now (flags .entry)) (now (area .entry)) memory_size used) ≡ run does (loadWide 1 address) (lent (now (slots .entry)) (now (flags .entry)) (now (area .entry)) memory_size used) ⌝ }
+    ensures { λ r. ⌜ (handedValue r, lent (now (slots .entry)) (now (flags .entry)) (now (area .entry)) extent used) ≡ run does (loadWide 1 address) (lent (now (slots .entry)) (now (flags .entry)) (now (area .entry)) extent used) ⌝ }
 {
     let memory = Memory {
-        size: memory_size,
+        size: extent,
         used,
         reservation: 0,
     };
@@ -846,14 +846,14 @@ pub extern "C" fn latchpebble_wxorx_load16(
     slots: &[u16],
     flags: &[u8],
     area: &[u8],
-    memory_size: u64,
-    used: u64,
+    extent: u64,
     address: u64,
+    used: u64,
 ) -> Value
-    ensures { λ r. ⌜ (handedValue r, lent (now (slots .entry)) (now (flags .entry)) (now (area .entry)) memory_size used) ≡ run does (loadWide 2 address) (lent (now (slots .entry)) (now (flags .entry)) (now (area .entry)) memory_size used) ⌝ }
+    ensures { λ r. ⌜ (handedValue r, lent (now (slots .entry)) (now (flags .entry)) (now (area .entry)) extent used) ≡ run does (loadWide 2 address) (lent (now (slots .entry)) (now (flags .entry)) (now (area .entry)) extent used) ⌝ }
 {
     let memory = Memory {
-        size: memory_size,
+        size: extent,
         used,
         reservation: 0,
     };
@@ -865,14 +865,14 @@ pub extern "C" fn latchpebble_wxorx_load32(
     slots: &[u16],
     flags: &[u8],
     area: &[u8],
-    memory_size: u64,
-    used: u64,
+    extent: u64,
     address: u64,
+    used: u64,
 ) -> Value
-    ensures { λ r. ⌜ (handedValue r, lent (now (slots .entry)) (now (flags .entry)) (now (area .entry)) memory_size used) ≡ run does (loadWide 4 address) (lent (now (slots .entry)) (now (flags .entry)) (now (area .entry)) memory_size used) ⌝ }
+    ensures { λ r. ⌜ (handedValue r, lent (now (slots .entry)) (now (flags .entry)) (now (area .entry)) extent used) ≡ run does (loadWide 4 address) (lent (now (slots .entry)) (now (flags .entry)) (now (area .entry)) extent used) ⌝ }
 {
     let memory = Memory {
-        size: memory_size,
+        size: extent,
         used,
         reservation: 0,
     };
@@ -884,14 +884,14 @@ pub extern "C" fn latchpebble_wxorx_load64(
     slots: &[u16],
     flags: &[u8],
     area: &[u8],
-    memory_size: u64,
-    used: u64,
+    extent: u64,
     address: u64,
+    used: u64,
 ) -> Value
-    ensures { λ r. ⌜ (handedValue r, lent (now (slots .entry)) (now (flags .entry)) (now (area .entry)) memory_size used) ≡ run does (loadWide 8 address) (lent (now (slots .entry)) (now (flags .entry)) (now (area .entry)) memory_size used) ⌝ }
+    ensures { λ r. ⌜ (handedValue r, lent (now (slots .entry)) (now (flags .entry)) (now (area .entry)) extent used) ≡ run does (loadWide 8 address) (lent (now (slots .entry)) (now (flags .entry)) (now (area .entry)) extent used) ⌝ }
 {
     let memory = Memory {
-        size: memory_size,
+        size: extent,
         used,
         reservation: 0,
     };
@@ -903,14 +903,14 @@ pub extern "C" fn latchpebble_wxorx_execute_load16(
     slots: &[u16],
     flags: &[u8],
     area: &[u8],
-    memory_size: u64,
-    used: u64,
+    extent: u64,
     address: u64,
+    used: u64,
 ) -> Value
-    ensures { λ r. ⌜ (handedValue r, lent (now (slots .entry)) (now (flags .entry)) (now (area .entry)) memory_size used) ≡ run does (wx.executeLoad 2 address) (lent (now (slots .entry)) (now (flags .entry)) (now (area .entry)) memory_size used) ⌝ }
+    ensures { λ r. ⌜ (handedValue r, lent (now (slots .entry)) (now (flags .entry)) (now (area .entry)) extent used) ≡ run does (wx.executeLoad 2 address) (lent (now (slots .entry)) (now (flags .entry)) (now (area .entry)) extent used) ⌝ }
 {
     let memory = Memory {
-        size: memory_size,
+        size: extent,
         used,
         reservation: 0,
     };
@@ -922,14 +922,14 @@ pub extern "C" fn latchpebble_wxorx_execute_load32(
     slots: &[u16],
     flags: &[u8],
     area: &[u8],
-    memory_size: u64,
-    used: u64,
+    extent: u64,
     address: u64,
+    used: u64,
 ) -> Value
-    ensures { λ r. ⌜ (handedValue r, lent (now (slots .entry)) (now (flags .entry)) (now (area .entry)) memory_size used) ≡ run does (wx.executeLoad 4 address) (lent (now (slots .entry)) (now (flags .entry)) (now (area .entry)) memory_size used) ⌝ }
+    ensures { λ r. ⌜ (handedValue r, lent (now (slots .entry)) (now (flags .entry)) (now (area .entry)) extent used) ≡ run does (wx.executeLoad 4 address) (lent (now (slots .entry)) (now (flags .entry)) (now (area .entry)) extent used) ⌝ }
 {
     let memory = Memory {
-        size: memory_size,
+        size: extent,
         used,
         reservation: 0,
     };
@@ -942,15 +942,15 @@ pub extern "C" fn latchpebble_wxorx_load_bytes(
     flags: &[u8],
     area: &[u8],
     out: &mut [u8],
-    memory_size: u64,
-    used: u64,
+    extent: u64,
     address: u64,
     size: u64,
+    used: u64,
 ) -> u32
-    ensures { λ r. ⌜ wrote r 0 (now (out .exit)) (lent (now (slots .entry)) (now (flags .entry)) (now (area .entry)) memory_size used) ≡ laid (now (out .entry)) (run does (loadBytes address size (length (now (out .entry)))) (lent (now (slots .entry)) (now (flags .entry)) (now (area .entry)) memory_size used)) ⌝ }
+    ensures { λ r. ⌜ wrote r 0 (now (out .exit)) (lent (now (slots .entry)) (now (flags .entry)) (now (area .entry)) extent used) ≡ laid (now (out .entry)) (run does (loadBytes address size (length (now (out .entry)))) (lent (now (slots .entry)) (now (flags .entry)) (now (area .entry)) extent used)) ⌝ }
 {
     let memory = Memory {
-        size: memory_size,
+        size: extent,
         used,
         reservation: 0,
     };
@@ -963,14 +963,14 @@ pub extern "C" fn latchpebble_wxorx_load_c_string(
     flags: &[u8],
     area: &[u8],
     out: &mut [u8],
-    memory_size: u64,
-    used: u64,
+    extent: u64,
     address: u64,
+    used: u64,
 ) -> Value
-    ensures { λ r. ⌜ wrote (r .number) (r .value) (now (out .exit)) (lent (now (slots .entry)) (now (flags .entry)) (now (area .entry)) memory_size used) ≡ laid (now (out .entry)) (run does (loadCString address (length (now (out .entry)))) (lent (now (slots .entry)) (now (flags .entry)) (now (area .entry)) memory_size used)) ⌝ }
+    ensures { λ r. ⌜ wrote (r .number) (r .value) (now (out .exit)) (lent (now (slots .entry)) (now (flags .entry)) (now (area .entry)) extent used) ≡ laid (now (out .entry)) (run does (loadCString address (length (now (out .entry)))) (lent (now (slots .entry)) (now (flags .entry)) (now (area .entry)) extent used)) ⌝ }
 {
     let memory = Memory {
-        size: memory_size,
+        size: extent,
         used,
         reservation: 0,
     };

@@ -1,86 +1,51 @@
 -- A part of a list that was lent and came back written: the whole list is written there.
-use mathlib.Core.Path.{_≡_, sym, ap, _∙_}
+use mathlib.Core.Path.{_≡_, sym, _∙_}
 use Prim.Native.Nat.{ℕ, _+_, _-_, _*_, _/_, _≤_, _<_}
-use native.Mathlib.Decide.{decLt}
+use native.Mathlib.Nat.{add-zero}
 use native.Mathlib.Omega.{arith}
-use mathlib.Core.List.{List, append-nil}
-use lib.ListN.{length, getD, take, drop, drop-of-length-le}
-use lib.Seq.{drop-drop, getD-take, getD-drop, ext-getD}
+use mathlib.Core.List.{List, _++_, append-assoc}
+use lib.ListN.{length, take, drop, take-append-drop}
+use lib.Seq.{take-all, take-take, take-add, drop-drop, drop-append-le}
 use borrow.Rule.Slice.PartMut.{putMid}
 use Rattle.bits.specs.Rounding.{pageSize}
 use Rattle.words.specs.Bytes.{part, written, filled}
 use Rattle.words.proofs.Patch.{length-part}
-use Rattle.words.proofs.Written.{written-fits, copied-fits, length-written, written-in, written-before, written-after}
+use Rattle.words.proofs.Written.{written-fits}
 use Rattle.words.proofs.Filled.{length-filled}
 
--- the part from `at` to e came back as p
-module _ (l p : List ℕ) (at e : ℕ) (ends : e ≤ length l) where
-  lent-whole : e ≡ at + length p → putMid at (e - at) l p ≡ written l at p
-  lent-whole k =
-      let j : at + (e - at) ≡ at + length p = omega arith in
-      rw (drop-drop, j, written-fits l p at (omega arith))
+-- the part from i to e came back as p
+module _ (l p : List ℕ) (i e : ℕ) (ends : e ≤ length l) where
+  -- it was written, from its index `at` on
+  lent-written : (at : ℕ) (s : List ℕ) → i ≤ e → at + length s ≤ e - i
+      → p ≡ written (part l i (e - i)) at s
+      → putMid i (e - i) l p ≡ written l (i + at) s
+  lent-written at s b h w =
+      let k : ℕ = e - i in
+      let d : List ℕ = drop i l in
+      let n : length (take k d) ≡ k = length-part l i k (omega arith) in
+      let j : i + at + length s ≡ i + (at + length s) = omega arith in
+      let back : drop (at + length s) (take k d) ++ drop k d ≡ drop (i + at + length s) l =
+      sym (drop-append-le (at + length s) (take k d) (drop k d) (omega arith))
+      ∙ rw (take-append-drop, j) (drop-drop (at + length s) i l) in
+      rw (w, written-fits (take k d) s at (omega arith), written-fits l s (i + at) (omega arith), take-add i at l, take-take at k d (omega arith), ← back)
+      (simp append-assoc)
 
   -- s was copied into it
-  lent-copied : (s : List ℕ) → e ≡ at + length s → length s ≤ pageSize
-      → p ≡ written (part l at (e - at)) 0 (take pageSize s)
-      → putMid at (e - at) l p ≡ written l at s
+  lent-copied : (s : List ℕ) → e ≡ i + length s → length s ≤ pageSize
+      → p ≡ written (part l i (e - i)) 0 (take pageSize s)
+      → putMid i (e - i) l p ≡ written l i s
   lent-copied s k h w =
-      let q : List ℕ = part l at (e - at) in
-      let n : length q ≡ e - at = length-part l at (e - at) (omega arith) in
-      let z : p ≡ s = w ∙ copied-fits q s h (omega arith) ∙ rw (drop-of-length-le q {i = 0 + length s} (omega arith)) (append-nil s) in
-      rw (← z) (lent-whole (k ∙ rw z))
+      lent-written 0 s (omega arith) (omega arith) (w ∙ rw (take-all pageSize s h)) ∙ rw add-zero
 
   -- it was filled
-  lent-filled : (n v : ℕ) → e ≡ at + n
-      → p ≡ filled (length (part l at (e - at))) v
-      → putMid at (e - at) l p ≡ written l at (filled n v)
+  lent-filled : (n v : ℕ) → e ≡ i + n
+      → p ≡ filled (length (part l i (e - i))) v
+      → putMid i (e - i) l p ≡ written l i (filled n v)
   lent-filled n v k w =
-      let m : length (part l at (e - at)) ≡ n = length-part l at (e - at) (omega arith) ∙ omega arith in
-      let z : p ≡ filled n v = w ∙ rw m in
+      let m : length (part l i (e - i)) ≡ n = length-part l i (e - i) (omega arith) ∙ omega arith in
       let f : length (filled n v) ≡ n = length-filled n v in
-      rw (← z) (lent-whole (k ∙ rw (z, f)))
-
-  -- it was written, from index k of it on
-  lent-written : (k : ℕ) (s : List ℕ) → k + length s ≤ e - at → at ≤ e
-      → p ≡ written (part l at (e - at)) k s
-      → putMid at (e - at) l p ≡ written l (at + k) s
-  lent-written k s h b w =
-      let q : List ℕ = part l at (e - at) in
-      let n : length q ≡ e - at = length-part l at (e - at) (omega arith) in
-      let m : length p ≡ e - at = rw w (length-written q s k ∙ n) in
-      lent-whole (omega arith) ∙ ext-getD 0 (written l at p) (written l (at + k) s)
-      (length-written l p at ∙ sym (length-written l s (at + k)))
-      (λ i g. same n m i)
-    where
-      old : length (part l at (e - at)) ≡ e - at → (i : ℕ) → at ≤ i → i < e → getD (part l at (e - at)) (i - at) 0 ≡ getD l i 0
-      old n i x y =
-          getD-take (e - at) (drop at l) (i - at) 0 (omega arith) ∙ getD-drop at l (i - at) 0
-          ∙ ap (λ (j : ℕ). getD l j 0) (omega arith)
-
-      inner : length (part l at (e - at)) ≡ e - at → length p ≡ e - at → (i : ℕ) → at ≤ i → i < e
-          → getD p (i - at) 0 ≡ getD (written l (at + k) s) i 0
-      inner n m i x y = elim (decLt i (at + k)) [
-        | yes z ↦ ap (λ (t : List ℕ). getD t (i - at) 0) w ∙ written-before (part l at (e - at)) s k (i - at) (omega arith)
-            ∙ old n i x y ∙ sym (written-before l s (at + k) i z)
-        | no z ↦ elim (decLt i (at + k + length s)) [
-          | yes u ↦ ap (λ (t : List ℕ). getD t (i - at) 0) w
-              ∙ written-in (part l at (e - at)) s k (i - at) (omega arith) (omega arith) (omega arith)
-              ∙ ap (λ (j : ℕ). getD s j 0) (omega arith)
-              ∙ sym (written-in l s (at + k) i (omega arith) u (omega arith))
-          | no u ↦ ap (λ (t : List ℕ). getD t (i - at) 0) w ∙ written-after (part l at (e - at)) s k (i - at) (omega arith)
-              ∙ old n i x y ∙ sym (written-after l s (at + k) i (omega arith))
-        ]
-      ]
-
-      same : length (part l at (e - at)) ≡ e - at → length p ≡ e - at → (i : ℕ)
-          → getD (written l at p) i 0 ≡ getD (written l (at + k) s) i 0
-      same n m i = elim (decLt i at) [
-        | yes x ↦ written-before l p at i x ∙ sym (written-before l s (at + k) i (omega arith))
-        | no x ↦ elim (decLt i e) [
-          | yes y ↦ written-in l p at i (omega arith) (omega arith) (omega arith) ∙ inner n m i (omega arith) y
-          | no y ↦ written-after l p at i (omega arith) ∙ sym (written-after l s (at + k) i (omega arith))
-        ]
-      ]
+      let j : i + (e - i) ≡ i + length (filled n v) = omega arith in
+      rw (w, m, drop-drop, j, written-fits l (filled n v) i (omega arith))
 
 -- ---- a part of a page
 module _ (page p : List ℕ) (at : ℕ) where

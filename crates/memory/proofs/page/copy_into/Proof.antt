@@ -1,11 +1,8 @@
+-- `memory::page::copy_into` meets its contract: the slot was lent to `copy_page`.
 use borrow.Author.Needs.{needs}
 use Rattle.memory.proofs.Lent.{slot-written}
 use Rattle.memory.proofs.page.copy_into.Statement.{statement}
 use Rattle.memory.proofs.page.copy_into.Tie as tie
-use Rattle.memory.proofs.page.copy_into.Reads as reads
-use Rattle.memory.proofs.page.copy_into.Lts as lts
-use Rattle.memory.proofs.page.copy_page.Reads as copy-page-reads
-use Rattle.memory.proofs.page.mark_dirty.Reads as mark-dirty-reads
 
 mul-start : tie.Need-mul-start
 mul-start c = search needs

@@ -1,10 +1,8 @@
+-- `memory::page::copy_page` meets its contract: a part of the page was lent to `words::copy`.
 use borrow.Author.Needs.{needs}
 use Rattle.memory.proofs.Lent.{page-copied}
 use Rattle.memory.proofs.page.copy_page.Statement.{statement}
 use Rattle.memory.proofs.page.copy_page.Tie as tie
-use Rattle.memory.proofs.page.copy_page.Reads as reads
-use Rattle.memory.proofs.page.copy_page.Lts as lts
-use Rattle.words.proofs.copy.Reads as copy-reads
 
 add-end : tie.Need-add-end
 add-end c = search needs

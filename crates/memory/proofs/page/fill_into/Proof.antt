@@ -1,11 +1,8 @@
+-- `memory::page::fill_into` meets its contract: the slot was lent to `fill_page`.
 use borrow.Author.Needs.{needs}
 use Rattle.memory.proofs.Lent.{slot-filled}
 use Rattle.memory.proofs.page.fill_into.Statement.{statement}
 use Rattle.memory.proofs.page.fill_into.Tie as tie
-use Rattle.memory.proofs.page.fill_into.Reads as reads
-use Rattle.memory.proofs.page.fill_into.Lts as lts
-use Rattle.memory.proofs.page.fill_page.Reads as fill-page-reads
-use Rattle.memory.proofs.page.mark_dirty.Reads as mark-dirty-reads
 
 mul-start : tie.Need-mul-start
 mul-start c = search needs

@@ -1,10 +1,8 @@
+-- `memory::page::fill_page` meets its contract: a part of the page was lent to `words::fill`.
 use borrow.Author.Needs.{needs}
 use Rattle.memory.proofs.Lent.{page-filled}
 use Rattle.memory.proofs.page.fill_page.Statement.{statement}
 use Rattle.memory.proofs.page.fill_page.Tie as tie
-use Rattle.memory.proofs.page.fill_page.Reads as reads
-use Rattle.memory.proofs.page.fill_page.Lts as lts
-use Rattle.words.proofs.fill.Reads as fill-reads
 
 add-end : tie.Need-add-end
 add-end c = search needs

@@ -1,7 +1,8 @@
 //! The archive of crate `host`: its C functions, and safe calls of them over slices.
 //!
-//! A slice goes over as pointer and length, and a memory as its size and its slots in use: two numbers, since
-//! a struct would go over the stack, where a store of its parts and a load of the whole wait for each other.
+//! A slice goes over as pointer and length, and a memory as two numbers: its size before the other numbers, its
+//! slots in use after them. (Side by side, or in a struct, a caller copies both by one load, which waits for the
+//! store of the slots that the call before handed back.)
 //! A store hands back the slots then in use, on a refusal too: it may have taken some. Nothing checks these
 //! declarations against the crate, so they keep its names and its order of parameters.
 
@@ -88,15 +89,13 @@ macro_rules! memories {
 
 memories! {
     fn fresh(*mut u16, usize, *mut u8, usize, *mut u8, usize, u64) -> Fresh;
-    fn init_pages(
-        *mut u16, usize, *mut u8, usize, *mut u8, usize, *const u8, usize, u64, u64, u64, u64, u8, u64
-    ) -> Stored;
+    fn init_pages(*mut u16, usize, *mut u8, usize, *mut u8, usize, *const u8, usize, u64, u64, u64, u8, u64, u64) -> Stored;
     fn fetch_flag(*const u16, usize, *const u8, usize, *const u8, usize, u64, u64, u64) -> Value;
-    fn set_flag(*const u16, usize, *mut u8, usize, *const u8, usize, u64, u64, u64, u8) -> u32;
-    fn clear_flag(*const u16, usize, *mut u8, usize, *const u8, usize, u64, u64, u64, u8) -> u32;
+    fn set_flag(*const u16, usize, *mut u8, usize, *const u8, usize, u64, u64, u8, u64) -> u32;
+    fn clear_flag(*const u16, usize, *mut u8, usize, *const u8, usize, u64, u64, u8, u64) -> u32;
     fn memory_size(Memory) -> u64;
     fn memory_pages(Memory) -> u64;
-    fn store_byte(*mut u16, usize, *mut u8, usize, *mut u8, usize, u64, u64, u64, u64, u8) -> Stored;
+    fn store_byte(*mut u16, usize, *mut u8, usize, *mut u8, usize, u64, u64, u64, u8, u64) -> Stored;
     fn store_bytes(*mut u16, usize, *mut u8, usize, *mut u8, usize, *const u8, usize, u64, u64, u64) -> Stored;
     fn load_bytes(*const u16, usize, *const u8, usize, *const u8, usize, *mut u8, usize, u64, u64, u64, u64) -> u32;
     fn load_c_string(*const u16, usize, *const u8, usize, *const u8, usize, *mut u8, usize, u64, u64, u64) -> Value;
@@ -136,7 +135,7 @@ macro_rules! lend {
 macro_rules! loads {
     ($($call:ident)*) => {
         $(pub fn $call(&self, lent: Lent, memory: Memory, address: u64) -> Value {
-            lend!((self.$call), lent, memory.size, memory.used, address)
+            lend!((self.$call), lent, memory.size, address, memory.used)
         })*
     };
 }
@@ -144,7 +143,7 @@ macro_rules! loads {
 macro_rules! stores {
     ($($call:ident)*) => {
         $(pub fn $call(&self, lent: Lent, memory: Memory, address: u64, value: u64) -> Stored {
-            lend!((self.$call), lent, memory.size, memory.used, address, value)
+            lend!((self.$call), lent, memory.size, address, value, memory.used)
         })*
     };
 }
@@ -171,24 +170,24 @@ impl Calls {
             source.as_ptr(),
             source.len(),
             memory.size,
-            memory.used,
             address,
             size,
             flag,
-            lead
+            lead,
+            memory.used
         )
     }
 
     pub fn fetch_flag(&self, lent: Lent, memory: Memory, page: u64) -> Value {
-        lend!((self.fetch_flag), lent, memory.size, memory.used, page)
+        lend!((self.fetch_flag), lent, memory.size, page, memory.used)
     }
 
     pub fn set_flag(&self, lent: Lent, memory: Memory, page: u64, flag: u8) -> u32 {
-        lend!((self.set_flag), lent, memory.size, memory.used, page, flag)
+        lend!((self.set_flag), lent, memory.size, page, flag, memory.used)
     }
 
     pub fn clear_flag(&self, lent: Lent, memory: Memory, page: u64, flag: u8) -> u32 {
-        lend!((self.clear_flag), lent, memory.size, memory.used, page, flag)
+        lend!((self.clear_flag), lent, memory.size, page, flag, memory.used)
     }
 
     pub fn memory_size(&self, memory: Memory) -> u64 {
@@ -201,20 +200,20 @@ impl Calls {
     }
 
     pub fn store_byte(&self, lent: Lent, memory: Memory, address: u64, size: u64, value: u8) -> Stored {
-        lend!((self.store_byte), lent, memory.size, memory.used, address, size, value)
+        lend!((self.store_byte), lent, memory.size, address, size, value, memory.used)
     }
 
     pub fn store_bytes(&self, lent: Lent, bytes: &[u8], memory: Memory, address: u64) -> Stored {
-        lend!((self.store_bytes), lent, bytes.as_ptr(), bytes.len(), memory.size, memory.used, address)
+        lend!((self.store_bytes), lent, bytes.as_ptr(), bytes.len(), memory.size, address, memory.used)
     }
 
     pub fn load_bytes(&self, lent: Lent, out: &mut [u8], memory: Memory, address: u64, size: u64) -> u32 {
-        lend!((self.load_bytes), lent, out.as_mut_ptr(), out.len(), memory.size, memory.used, address, size)
+        lend!((self.load_bytes), lent, out.as_mut_ptr(), out.len(), memory.size, address, size, memory.used)
     }
 
     /// The value is the string's length.
     pub fn load_c_string(&self, lent: Lent, out: &mut [u8], memory: Memory, address: u64) -> Value {
-        lend!((self.load_c_string), lent, out.as_mut_ptr(), out.len(), memory.size, memory.used, address)
+        lend!((self.load_c_string), lent, out.as_mut_ptr(), out.len(), memory.size, address, memory.used)
     }
 
     loads!(execute_load16 execute_load32 load8 load16 load32 load64);
@@ -226,77 +225,5 @@ impl Calls {
 
     pub fn set_lr(&self, memory: Memory, value: u64) -> Memory {
         unsafe { (self.set_lr)(memory, value) }
-    }
-}
-
-/// The parts of memory/mod.rs that have no line in the call script.
-#[allow(dead_code)]
-pub mod parts {
-    use super::{Lent, Memory, Stored};
-
-    #[link(name = "host", kind = "static")]
-    unsafe extern "C" {
-        fn latchpebble_check_permission(
-            _: *const u16,
-            _: usize,
-            _: *const u8,
-            _: usize,
-            _: *const u8,
-            _: usize,
-            size: u64,
-            used: u64,
-            first: u64,
-            last: u64,
-            flag: u8,
-        ) -> u32;
-        fn latchpebble_set_dirty(
-            _: *const u16,
-            _: usize,
-            _: *mut u8,
-            _: usize,
-            _: *const u8,
-            _: usize,
-            size: u64,
-            used: u64,
-            first: u64,
-            last: u64,
-        ) -> u32;
-        fn latchpebble_fill_page_data(
-            _: *mut u16,
-            _: usize,
-            _: *mut u8,
-            _: usize,
-            _: *mut u8,
-            _: usize,
-            _: *const u8,
-            _: usize,
-            memory_size: u64,
-            used: u64,
-            address: u64,
-            size: u64,
-            lead: u64,
-        ) -> Stored;
-    }
-
-    pub fn check_permission(lent: Lent, memory: Memory, first: u64, last: u64, flag: u8) -> u32 {
-        lend!(latchpebble_check_permission, lent, memory.size, memory.used, first, last, flag)
-    }
-
-    pub fn set_dirty(lent: Lent, memory: Memory, first: u64, last: u64) -> u32 {
-        lend!(latchpebble_set_dirty, lent, memory.size, memory.used, first, last)
-    }
-
-    pub fn fill_page_data(lent: Lent, source: &[u8], memory: Memory, address: u64, size: u64, lead: u64) -> Stored {
-        lend!(
-            latchpebble_fill_page_data,
-            lent,
-            source.as_ptr(),
-            source.len(),
-            memory.size,
-            memory.used,
-            address,
-            size,
-            lead
-        )
     }
 }

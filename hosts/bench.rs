@@ -144,16 +144,17 @@ impl<L: Layer> Port<'_, L> {
 
 // ---- rounds
 
-/// `length` bytes from START of a page on.
-fn block(all: &mut Vec<u8>, length: usize) -> &mut [u8] {
-    all.resize(length + 2 * PAGE, 0x5a);
+/// `length` bytes from START of a page on. They are never freed, and no memory is: from then on the allocator would put
+/// pages elsewhere.
+fn block(length: usize) -> &'static mut [u8] {
+    let all = vec![0x5a; length + 2 * PAGE].leak();
     let start = (START + PAGE - all.as_ptr() as usize % PAGE) % PAGE;
     &mut all[start..start + length]
 }
 
 /// How many calls of that many bytes a round has: it takes some tens of microseconds.
 fn calls_of(bytes: usize) -> u64 {
-    (200_000 / (bytes as u64 + 100)).clamp(4, 2_000)
+    3_000_000 / (bytes as u64 + 1_500)
 }
 
 /// Nanoseconds a call of a round, lowered to those of this one.
@@ -187,9 +188,9 @@ fn say<L: Layer>(call: &str, bytes: usize, [rust, port, beside]: [f64; 3], plain
 // ---- the cases
 
 fn time<L: Layer>() {
-    let mut rust = L::Upstream::new_with_memory(SIZE);
-    let (mut slots, mut flags, mut area) = (vec![0; PAGES], vec![0; PAGES], Vec::new());
-    let (slots, flags, area) = (&mut slots[..], &mut flags[..], block(&mut area, SIZE));
+    let rust = Box::leak(Box::new(L::Upstream::new_with_memory(SIZE)));
+    let (mut slots, mut flags, area) = (vec![0; PAGES], vec![0; PAGES], block(SIZE));
+    let (slots, flags) = (&mut slots[..], &mut flags[..]);
     let place = area[PLACE..].as_mut_ptr();
     let filled = area[FILLED..].as_mut_ptr();
     let fresh = L::CALLS.fresh(Lent { slots, flags, area }, SIZE as u64);
@@ -197,24 +198,23 @@ fn time<L: Layer>() {
     // in memory, as a host's state is, and not in registers
     let port = black_box(&mut port);
     let mut refused = fresh.number | port.store_byte(0, SIZE as u64, 1);
-    let mut failed = store_byte(&mut rust, 0, SIZE as u64, 1).is_err();
+    let mut failed = store_byte(rust, 0, SIZE as u64, 1).is_err();
 
-    let (mut source, mut out) = (Vec::new(), Vec::new());
-    let (source, out) = (block(&mut source, 16 * PAGE), block(&mut out, 16 * PAGE));
+    let (source, out) = (block(16 * PAGE), block(16 * PAGE));
     for (i, byte) in source.iter_mut().enumerate() {
         *byte = (i * 7 + i / 256) as u8;
     }
     // no number of a call is a constant to the compiler
-    let at = black_box(PLACE as u64);
+    let (at, value) = (black_box(PLACE as u64), black_box(7));
 
     for n in SIZES {
         let (calls, bytes) = (calls_of(n), black_box(&source[..n]));
         let times = race(
             calls,
-            |_| failed |= store_bytes(&mut rust, at, bytes).is_err(),
+            |_| failed |= store_bytes(rust, at, bytes).is_err(),
             |_| refused |= port.store_bytes(at, bytes),
-            // n bytes of the area, and a source that is apart from it
-            |_| unsafe { ptr::copy(bytes.as_ptr(), black_box(place), n) },
+            // bytes of the area, and a source that is apart from it
+            |_| unsafe { ptr::copy(bytes.as_ptr(), black_box(place), bytes.len()) },
         );
         say::<L>("store_bytes", n, times, "memmove");
     }
@@ -222,9 +222,9 @@ fn time<L: Layer>() {
         let (calls, size) = (calls_of(n), black_box(n as u64));
         let times = race(
             calls,
-            |_| failed |= store_byte(&mut rust, at, size, 7).is_err(),
-            |_| refused |= port.store_byte(at, size, 7),
-            |_| unsafe { ptr::write_bytes(black_box(place), 7, n) },
+            |_| failed |= store_byte(rust, at, size, value).is_err(),
+            |_| refused |= port.store_byte(at, size, value),
+            |_| unsafe { ptr::write_bytes(black_box(place), value, size as usize) },
         );
         say::<L>("store_byte", n, times, "memset");
     }
@@ -233,9 +233,9 @@ fn time<L: Layer>() {
         let (calls, size) = (calls_of(n), black_box(n as u64));
         let times = race(
             calls,
-            |_| failed |= black_box(load_bytes(&mut rust, at, size)).is_err(),
+            |_| failed |= black_box(load_bytes(rust, at, size)).is_err(),
             |_| refused |= port.load_bytes(out, at, size),
-            |_| unsafe { ptr::copy(black_box(place), to, n) },
+            |_| unsafe { ptr::copy(black_box(place), to, size as usize) },
         );
         say::<L>("load_bytes", n, times, "memmove");
     }
@@ -243,7 +243,7 @@ fn time<L: Layer>() {
     let words = (PAGE / 8) as u64;
     let times = race(
         words,
-        |i| failed |= store64(&mut rust, at + 8 * i, i).is_err(),
+        |i| failed |= store64(rust, at + 8 * i, i).is_err(),
         |i| refused |= port.store64(at + 8 * i, i),
         nothing,
     );
@@ -257,38 +257,37 @@ fn time<L: Layer>() {
         there = there.wrapping_add(loaded.value);
         refused |= loaded.number;
     };
-    let times = race(words, |i| add(load64(&mut rust, at + 8 * i)), |i| also(port.load64(at + 8 * i)), nothing);
+    let times = race(words, |i| add(load64(rust, at + 8 * i)), |i| also(port.load64(at + 8 * i)), nothing);
     say::<L>("load64", 8, times, "");
 
     let (from, size, flag) = (black_box(FILLED as u64), black_box(FILL as u64), black_box(EXECUTABLE));
     let times = race(
         calls_of(FILL),
-        |_| failed |= init_pages(&mut rust, from, size, flag).is_err(),
+        |_| failed |= init_pages(rust, from, size, flag).is_err(),
         |_| refused |= port.init_pages(from, size, flag),
-        |_| unsafe { ptr::write_bytes(black_box(filled), 0, FILL) },
+        |_| unsafe { ptr::write_bytes(black_box(filled), 0, size as usize) },
     );
     say::<L>("init_pages", FILL, times, "memset");
 
     // over the end of a page: not among the cases of the goal
-    let (end, bytes) = (at + PAGE as u64, &source[..64]);
+    let (end, bytes) = (at + PAGE as u64, black_box(&source[..64]));
     let times = race(
         calls_of(64),
-        |_| failed |= store_bytes(&mut rust, end - 32, bytes).is_err(),
+        |_| failed |= store_bytes(rust, end - 32, bytes).is_err(),
         |_| refused |= port.store_bytes(end - 32, bytes),
         nothing,
     );
     say::<L>("store_bytes,across", 64, times, "");
-    let times = race(
-        words,
-        |i| failed |= store64(&mut rust, end - 4, i).is_err(),
-        |i| refused |= port.store64(end - 4, i),
-        nothing,
-    );
+    let times =
+        race(words, |i| failed |= store64(rust, end - 4, i).is_err(), |i| refused |= port.store64(end - 4, i), nothing);
     say::<L>("store64,across", 8, times, "");
 
     assert!(!failed && refused == 0, "a call was refused");
     assert!(here == there, "the numbers loaded differ");
-    assert!(rust.load_bytes(0, SIZE as u64).is_ok_and(|bytes| bytes[..] == port.area[..]), "the bytes differ");
+    for (page, bytes) in port.area.chunks(PAGE).enumerate() {
+        let loaded = rust.load_bytes((page * PAGE) as u64, PAGE as u64);
+        assert!(loaded.is_ok_and(|loaded| loaded[..] == *bytes), "the bytes of page {page} differ");
+    }
 }
 
 fn main() {

@@ -26,7 +26,9 @@ same-length : tie.Need-same-length
 same-length c = search needs
 
 returns : tie.Need-returns
-returns c = search (needs, slot-cleared)
+returns c =
+    let a = c .before .before .before .before .before in
+    slot-cleared (a .args .area .now) _ (a .args .slot) (a .pre) (c .before .before .fill .ensures)
 
 pub clear-slot-spec : {M : Type 1} → statement M
 clear-slot-spec =

@@ -11,6 +11,7 @@ pub mod PageIndices
 pub mod Flags
 pub mod Fresh
 pub mod WriteOrExecute
+pub mod ShortPath
 -- no second outcome fits a promise:
 pub mod Once
 pub mod Own

@@ -29,6 +29,9 @@ getD-any (x ∷ xs) (suc i) d e h = getD-any xs i d e (omega arith)
 pub slot-there : (slots : List ℕ) (p x : ℕ) → p < length slots → x ≡ getD slots p 0 → x ≡ slotIn slots p
 slot-there slots p x h e = e ∙ getD-any slots p 0 absent h
 
+pub slot-read : (slots : List ℕ) (p x : ℕ) → p < length slots → x ≡ slotIn slots p → x ≡ getD slots p 0
+slot-read slots p x h e = e ∙ getD-any slots p absent 0 h
+
 pub slot-past : (slots : List ℕ) (p : ℕ) → length slots ≤ p → absent ≡ slotIn slots p
 slot-past slots p h = sym (List·getD-eq-default slots absent h)
 
@@ -77,7 +80,7 @@ module _ (slots : List ℕ) (flags area : ℕ) (m : Memory) (p : ℕ) (f : Fitti
   pub unfetched : (n x : ℕ) → 0 < n → Fetch n p x slots area m m
   unfetched n x h =
       record {
-        kept = record { size-kept = refl; used-in = f .used-in };
+        kept = record { size-kept = refl; reservation-kept = refl; used-in = f .used-in };
         there = λ e. absurd (omega arith);
         slot-is = λ e. absurd (omega arith);
         slot-in = λ e. absurd (omega arith);
@@ -86,7 +89,7 @@ module _ (slots : List ℕ) (flags area : ℕ) (m : Memory) (p : ℕ) (f : Fitti
   pub fetched-had : (x : ℕ) → p < m .size / pageSize → x ≡ getD slots p 0 → x < m .used → Fetch 0 p x slots area m m
   fetched-had x h e u =
       record {
-        kept = record { size-kept = refl; used-in = f .used-in };
+        kept = record { size-kept = refl; reservation-kept = refl; used-in = f .used-in };
         there = λ z. h;
         slot-is = λ z. slot-there slots p x (omega arith) e;
         slot-in = λ z. omega arith;
@@ -95,7 +98,7 @@ module _ (slots : List ℕ) (flags area : ℕ) (m : Memory) (p : ℕ) (f : Fitti
   pub fetched-taken : p < m .size / pageSize → m .used < area / pageSize → Fetch 0 p (m .used) (set slots p (m .used)) area m (taken m)
   fetched-taken h u =
       record {
-        kept = record { size-kept = refl; used-in = omega arith };
+        kept = record { size-kept = refl; reservation-kept = refl; used-in = omega arith };
         there = λ z. h;
         slot-is = λ z. sym (getD-set-same slots p (m .used) absent (omega arith));
         slot-in = λ z. u;

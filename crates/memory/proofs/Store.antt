@@ -8,7 +8,7 @@ use native.Mathlib.Omega.{arith}
 use native.Mathlib.Decide.{decLt}
 use mathlib.Core.List.{List}
 use lib.ListN.{length, take, drop, length-take, length-drop}
-use lib.Seq.{take-all, length-take-le}
+use lib.Seq.{take-all, take-take, length-take-le}
 use lib.Dec.{eqb}
 use mir.Syntax.{w64}
 use mir.Val.{Fits}
@@ -104,12 +104,22 @@ pub record Going (s₀ : State) (page₀ at₀ : ℕ) (bytes₀ : List ℕ) (s :
   pub flags-kept : length (s .flags) ≡ length (s₀ .flags)
   pub area-kept : length (s .area) ≡ length (s₀ .area)
   pub size-kept : s .memory .size ≡ s₀ .memory .size
+  pub reservation-kept : s .memory .reservation ≡ s₀ .memory .reservation
   pub fit : Fitting (length (s .slots)) (length (s .flags)) (length (s .area)) (s .memory)
 
 pub start : (s : State) (page at : ℕ) (bytes : List ℕ) → Fitting (length (s .slots)) (length (s .flags)) (length (s .area)) (s .memory)
     → at < pageSize → Going s page at bytes s page at bytes
 start s page at bytes f h =
-    record { same = refl; at-in = h; slots-kept = refl; flags-kept = refl; area-kept = refl; size-kept = refl; fit = f }
+    record {
+      same = refl;
+      at-in = h;
+      slots-kept = refl;
+      flags-kept = refl;
+      area-kept = refl;
+      size-kept = refl;
+      reservation-kept = refl;
+      fit = f;
+    }
 
 module _ {s₀ : State} {page₀ at₀ : ℕ} {bytes₀ : List ℕ} {s : State} {page at : ℕ} {bytes : List ℕ}
     (g : Going s₀ page₀ at₀ bytes₀ s page at bytes) where
@@ -118,10 +128,15 @@ module _ {s₀ : State} {page₀ at₀ : ℕ} {bytes₀ : List ℕ} {s : State} 
   finish h = store-none s page at bytes (omega arith) ∙ g .same
 
   pub kept : (m : Memory) → Kept (length (s .area)) (s .memory) m → Kept (length (s₀ .area)) (s₀ .memory) m
-  kept m u = record { size-kept = u .size-kept ∙ g .size-kept; used-in = rw (g .area-kept) at (u .used-in) }
+  kept m u =
+      record {
+        size-kept = u .size-kept ∙ g .size-kept;
+        reservation-kept = u .reservation-kept ∙ g .reservation-kept;
+        used-in = rw (g .area-kept) at (u .used-in);
+      }
 
   pub kept-now : Kept (length (s₀ .area)) (s₀ .memory) (s .memory)
-  kept-now = kept (s .memory) (record { size-kept = refl; used-in = g .fit .used-in })
+  kept-now = kept (s .memory) (record { size-kept = refl; reservation-kept = refl; used-in = g .fit .used-in })
 
   -- a turn: n of the bytes lie on this page, and storing them answered k and left t
   module _ (some : 0 < length bytes) (n : ℕ) (cut : n ≡ min (pageSize - at) (length bytes)) (k : ℕ) (t : State) (d : Bool)
@@ -143,6 +158,7 @@ module _ {s₀ : State} {page₀ at₀ : ℕ} {bytes₀ : List ℕ} {s : State} 
             flags-kept = kf ∙ g .flags-kept;
             area-kept = ka ∙ g .area-kept;
             size-kept = z ∙ g .size-kept;
+            reservation-kept = u .reservation-kept ∙ g .reservation-kept;
             fit = omega arith;
           }
 
@@ -215,13 +231,24 @@ module _ (s : State) (a : ℕ) (bytes : List ℕ) (b : Bool) (e : b ≡ fits s) 
   unfolding storeBytes
   bytes-stored r t q = fit-yes (λ n. n) s (store a bytes) b e r t (store-at s a bytes r q)
 
--- the low n bytes of a number, at the front of a list with room for them
-module _ (zeros w : List ℕ) (n x : ℕ) (e : w ≡ written zeros 0 (toLe n x)) (h : n ≤ length zeros) where
+-- the low n bytes of a number come first of its low m
+take-toLe : (n m x : ℕ) → n ≤ m → take n (toLe m x) ≡ toLe n x
+unfolding toLe
+take-toLe zero m x h = refl
+take-toLe (suc n) zero x h = absurd (omega arith)
+take-toLe (suc n) (suc m) x h = rw (take-toLe n m (x / 256) (omega arith))
+
+-- which stand at the front of a list with room for them
+module _ (zeros w : List ℕ) (n m x : ℕ) (e : w ≡ written zeros 0 (toLe m x)) (l : m ≤ length zeros) (h : n ≤ m) where
   pub wide-length : n ≡ length (take n w)
-  wide-length = sym (length-take-le n w (rw (e, length-written) h))
+  wide-length = sym (length-take-le n w (rw (e, length-written) (omega arith)))
 
   pub wide-bytes : take n w ≡ toLe n x
-  wide-bytes = let l : length (toLe n x) ≡ n = length-toLe n x in rw e (rw l at (part-written zeros (toLe n x) 0 (omega arith)))
+  wide-bytes =
+      let k : length (toLe m x) ≡ m = length-toLe m x in
+      let a : take m w ≡ toLe m x = rw e (rw k at (part-written zeros (toLe m x) 0 (omega arith))) in
+      let b : take n (take m w) ≡ take n w = take-take n m w h in
+      sym b ∙ rw a (take-toLe n m x h)
 
   pub wide-stored : (s : State) (a : ℕ) (r : ℕ × State) → r ≡ run does (storeBytes a (take n w)) s → r ≡ run does (storeWide n a x) s
   unfolding storeWide

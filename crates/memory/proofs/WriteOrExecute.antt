@@ -127,11 +127,11 @@ module _ (s : State) (a n v : ℕ) (b : Bool) (e : b ≡ fits s) (t : b ≡ true
     unfolding storeByte
     fills-done = any-done s a n (filled n v) (length-filled n v) b e t z k d p i
 
--- of the low n bytes of a number, at the front of a list with room for them
-pub wide-stored : (s : State) (a n x : ℕ) (zeros w : List ℕ) (r : ℕ × State) → w ≡ written zeros 0 (toLe n x) → n ≤ length zeros
+-- of the low n bytes of a number, at the front of a list with room for m of them
+pub wide-stored : (s : State) (a n m x : ℕ) (zeros w : List ℕ) (r : ℕ × State) → w ≡ written zeros 0 (toLe m x) → m ≤ length zeros → n ≤ m
     → r ≡ run does (storeBytes a (take n w)) s → r ≡ run does (storeWide n a x) s
 unfolding storeWide
-wide-stored s a n x zeros w r e h q = q ∙ rw (wide-bytes zeros w n x e h)
+wide-stored s a n m x zeros w r e l h q = q ∙ rw (wide-bytes zeros w n m x e l h)
 
 -- ---- an execute load: refused by the check, loaded
 module _ (s : State) (a n : ℕ) (b : Bool) (e : b ≡ fits s) (t : b ≡ true) (k : ℕ) (d : Bool)

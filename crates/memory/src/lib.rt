@@ -6,10 +6,12 @@
 //
 //   sparse   pages in slots; no permission check
 //   wxorx    the same, with the W^X check on stores and execute loads, and frozen pages
-//   here     page indices, the permission check, set_dirty, and the fill of pages, as memory/mod.rs has them
+//   lib      page indices, the permission check, set_dirty, and the fill of pages, as memory/mod.rs has them
 //
 // Every call answers on every input, and looks at the lengths of the lent storage first (refusal 9). What it answers and
-// leaves is one program of specs/ (Sparse.antt, WXorX.antt), run on the lent lists.
+// leaves is one program of specs/ (Sparse.antt, WXorX.antt), run on the lent lists. Stores of bytes and stores and loads of
+// numbers first try what most of them are, bytes in one page that is in a slot (here.rt).
+mod here;
 mod load;
 mod page;
 pub mod sparse;

@@ -88,8 +88,8 @@ fn mark_dirty(flags: &mut [u8], p: usize)
     flags[p] = flags[p] | FLAG_DIRTY;
 }
 
-// Copies all of `source` into the slot of page `p`, from index `at` on, and marks the page dirty.
-fn copy_into(flags: &mut [u8], area: &mut [u8], source: &[u8], p: usize, slot: usize, at: usize)
+// Marks page `p` dirty, and copies all of `source` into its slot, from index `at` on.
+pub fn copy_into(flags: &mut [u8], area: &mut [u8], source: &[u8], p: usize, slot: usize, at: usize)
     requires { ⌜ p < length (now flags) ⌝ }
     requires { ⌜ slot < length (now area) / pageSize ⌝ }
     requires { ⌜ at + length (now source) ≤ pageSize ⌝ }
@@ -98,12 +98,12 @@ fn copy_into(flags: &mut [u8], area: &mut [u8], source: &[u8], p: usize, slot: u
 {
     let start = slot * RISCV_PAGESIZE;
     let end = start + RISCV_PAGESIZE;
-    copy_page(&mut area[start..end], source, at);
     mark_dirty(flags, p);
+    copy_page(&mut area[start..end], source, at);
 }
 
-// Sets `n` bytes of the slot of page `p` from index `at` on to one value, and marks the page dirty.
-fn fill_into(
+// Marks page `p` dirty, and sets `n` bytes of its slot from index `at` on to one value.
+pub fn fill_into(
     flags: &mut [u8],
     area: &mut [u8],
     p: usize,
@@ -120,8 +120,8 @@ fn fill_into(
 {
     let start = slot * RISCV_PAGESIZE;
     let end = start + RISCV_PAGESIZE;
-    fill_page(&mut area[start..end], at, n, value);
     mark_dirty(flags, p);
+    fill_page(&mut area[start..end], at, n, value);
 }
 
 // Zeros a slot.

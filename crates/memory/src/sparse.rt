@@ -10,11 +10,13 @@ ghost use Rattle.memory.specs.Storage.{stateOf, fresh, absent, reserved}
 ghost use Rattle.memory.specs.Operations.{does};
 ghost use Rattle.memory.specs.Sparse.{fetchFlag, setFlag, clearFlag, storeByte, storeBytes, storeWide, fillPageData, loadWide, loadBytes, loadCString};
 ghost use Rattle.memory.specs.Answers.{answered, valueOf, wrote, laid};
+ghost use Rattle.memory.specs.Inner.{Same};
 use super::Answer;
 use super::INVALID_PAGE_INDEX;
 use super::Memory;
 use super::PAGE;
 use super::Value;
+use super::here;
 use super::load;
 use super::page;
 use outcome::Outcome;
@@ -193,8 +195,8 @@ pub fn store_byte(
     }
 }
 
-// Stores bytes.
-pub fn store_bytes(
+// Stores bytes, on any pages.
+fn store_over(
     slots: &mut [u16],
     flags: &mut [u8],
     area: &mut [u8],
@@ -203,6 +205,7 @@ pub fn store_bytes(
     address: u64,
 ) -> Answer
     ensures { λ r. ⌜ answered r (now (slots .exit)) (now (flags .exit)) (now (area .exit)) ≡ run does (storeBytes address (now (bytes .entry))) (stateOf (now (slots .entry)) (now (flags .entry)) (now (area .entry)) memory) ⌝ }
+    ensures { λ r. ⌜ Same memory (r .memory) ⌝ }
 {
     if super::storage_fits(slots.len(), flags.len(), area.len(), memory) {
         let first = address / PAGE;
@@ -215,7 +218,37 @@ pub fn store_bytes(
     }
 }
 
-// Stores the low n bytes of a number.
+// Stores bytes.
+pub fn store_bytes(
+    slots: &mut [u16],
+    flags: &mut [u8],
+    area: &mut [u8],
+    bytes: &[u8],
+    memory: Memory,
+    address: u64,
+) -> Answer
+    ensures { λ r. ⌜ answered r (now (slots .exit)) (now (flags .exit)) (now (area .exit)) ≡ run does (storeBytes address (now (bytes .entry))) (stateOf (now (slots .entry)) (now (flags .entry)) (now (area .entry)) memory) ⌝ }
+{
+    if here::store(slots, flags, area, bytes, memory, address, 0) {
+        return Answer {
+            outcome: Outcome::Done,
+            memory,
+        };
+    }
+    let answer = store_over(slots, flags, area, bytes, memory, address);
+    let outcome = answer.outcome;
+    let next = answer.memory;
+    Answer {
+        outcome,
+        memory: Memory {
+            size: memory.size,
+            used: next.used,
+            reservation: memory.reservation,
+        },
+    }
+}
+
+// Stores the low n bytes of a number, on any pages.
 fn store_wide(
     slots: &mut [u16],
     flags: &mut [u8],
@@ -230,7 +263,7 @@ fn store_wide(
 {
     let mut bytes = [0u8; 8];
     words::write_le(&mut bytes, 0, n, value);
-    store_bytes(slots, flags, area, &bytes[..n], memory, address)
+    store_over(slots, flags, area, &bytes[..n], memory, address)
 }
 
 // Stores the low 1 byte of a number.
@@ -244,6 +277,16 @@ pub fn store8(
 ) -> Answer
     ensures { λ r. ⌜ answered r (now (slots .exit)) (now (flags .exit)) (now (area .exit)) ≡ run does (storeWide 1 address value) (stateOf (now (slots .entry)) (now (flags .entry)) (now (area .entry)) memory) ⌝ }
 {
+    if here::store_wide(slots, flags, area, memory, address, value, 1, 0) {
+        return Answer {
+            outcome: Outcome::Done,
+            memory: Memory {
+                size: memory.size,
+                used: memory.used,
+                reservation: memory.reservation,
+            },
+        };
+    }
     store_wide(slots, flags, area, memory, address, value, 1)
 }
 
@@ -258,6 +301,16 @@ pub fn store16(
 ) -> Answer
     ensures { λ r. ⌜ answered r (now (slots .exit)) (now (flags .exit)) (now (area .exit)) ≡ run does (storeWide 2 address value) (stateOf (now (slots .entry)) (now (flags .entry)) (now (area .entry)) memory) ⌝ }
 {
+    if here::store_wide(slots, flags, area, memory, address, value, 2, 0) {
+        return Answer {
+            outcome: Outcome::Done,
+            memory: Memory {
+                size: memory.size,
+                used: memory.used,
+                reservation: memory.reservation,
+            },
+        };
+    }
     store_wide(slots, flags, area, memory, address, value, 2)
 }
 
@@ -272,6 +325,16 @@ pub fn store32(
 ) -> Answer
     ensures { λ r. ⌜ answered r (now (slots .exit)) (now (flags .exit)) (now (area .exit)) ≡ run does (storeWide 4 address value) (stateOf (now (slots .entry)) (now (flags .entry)) (now (area .entry)) memory) ⌝ }
 {
+    if here::store_wide(slots, flags, area, memory, address, value, 4, 0) {
+        return Answer {
+            outcome: Outcome::Done,
+            memory: Memory {
+                size: memory.size,
+                used: memory.used,
+                reservation: memory.reservation,
+            },
+        };
+    }
     store_wide(slots, flags, area, memory, address, value, 4)
 }
 
@@ -286,11 +349,21 @@ pub fn store64(
 ) -> Answer
     ensures { λ r. ⌜ answered r (now (slots .exit)) (now (flags .exit)) (now (area .exit)) ≡ run does (storeWide 8 address value) (stateOf (now (slots .entry)) (now (flags .entry)) (now (area .entry)) memory) ⌝ }
 {
+    if here::store_wide(slots, flags, area, memory, address, value, 8, 0) {
+        return Answer {
+            outcome: Outcome::Done,
+            memory: Memory {
+                size: memory.size,
+                used: memory.used,
+                reservation: memory.reservation,
+            },
+        };
+    }
     store_wide(slots, flags, area, memory, address, value, 8)
 }
 
-// The number in n bytes from an address on.
-fn load_wide(
+// The number in n bytes from an address on, on any pages.
+fn load_over(
     slots: &[u16],
     flags: &[u8],
     area: &[u8],
@@ -308,6 +381,28 @@ fn load_wide(
         outcome: Outcome::BadStorage,
         value: 0,
     }
+}
+
+// The number in n bytes from an address on.
+fn load_wide(
+    slots: &[u16],
+    flags: &[u8],
+    area: &[u8],
+    memory: Memory,
+    address: u64,
+    n: usize,
+) -> Value
+    requires { ⌜ (0 < n) × (n ≤ 8) ⌝ }
+    ensures { λ r. ⌜ (valueOf r, stateOf (now (slots .entry)) (now (flags .entry)) (now (area .entry)) memory) ≡ run does (loadWide n address) (stateOf (now (slots .entry)) (now (flags .entry)) (now (area .entry)) memory) ⌝ }
+{
+    let found = here::load(slots, flags, area, memory, address, n);
+    if found.done {
+        return Value {
+            outcome: Outcome::Done,
+            value: found.value,
+        };
+    }
+    load_over(slots, flags, area, memory, address, n)
 }
 
 // The byte at an address as a number.
@@ -382,12 +477,12 @@ pub fn load_bytes(
     if size == 0 {
         return Outcome::Done;
     }
-    let outcome = load::reachable(slots, flags, area, memory, address, size, out.len());
-    if outcome::is_done(outcome) {
-        load::load_pages(slots, area, out, address, size as usize);
-        return Outcome::Done;
+    let reached = load::reachable(slots, flags, area, memory, address, size, out.len());
+    if outcome::is_done(reached) {} else {
+        return reached;
     }
-    outcome
+    load::load_pages(slots, area, out, address, size as usize);
+    Outcome::Done
 }
 
 // The bytes from an address on up to a zero byte, at the front of a lent output, and how many they are.

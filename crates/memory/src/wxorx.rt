@@ -12,13 +12,16 @@ ghost use Rattle.memory.specs.Operations.{does};
 ghost use Rattle.memory.specs.Sparse.{fill, fetchFlag, setFlag, clearFlag, loadWide, loadBytes, loadCString};
 ghost use Rattle.memory.specs.WXorX.{inBounds, storeByte, storeBytes, storeWide, executeLoad, initFlag, initPages};
 ghost use Rattle.memory.specs.Answers.{answered, valueOf, wrote, laid};
+ghost use Rattle.memory.specs.Inner.{Same};
 use super::Answer;
 use super::FLAG_EXECUTABLE;
 use super::FLAG_FREEZED;
 use super::FLAG_WRITABLE;
+use super::FLAG_WXORX_BIT;
 use super::Memory;
 use super::PAGE;
 use super::Value;
+use super::here;
 use super::load;
 use super::page;
 use outcome::Outcome;
@@ -252,8 +255,8 @@ pub fn store_byte(
     Answer { outcome, memory }
 }
 
-// Stores bytes.
-pub fn store_bytes(
+// Stores bytes, on any pages.
+fn store_over(
     slots: &mut [u16],
     flags: &mut [u8],
     area: &mut [u8],
@@ -262,6 +265,7 @@ pub fn store_bytes(
     address: u64,
 ) -> Answer
     ensures { λ r. ⌜ answered r (now (slots .exit)) (now (flags .exit)) (now (area .exit)) ≡ run does (storeBytes address (now (bytes .entry))) (stateOf (now (slots .entry)) (now (flags .entry)) (now (area .entry)) memory) ⌝ }
+    ensures { λ r. ⌜ Same memory (r .memory) ⌝ }
 {
     if super::storage_fits(slots.len(), flags.len(), area.len(), memory) {} else {
         return Answer {
@@ -292,7 +296,37 @@ pub fn store_bytes(
     Answer { outcome, memory }
 }
 
-// Stores the low n bytes of a number.
+// Stores bytes.
+pub fn store_bytes(
+    slots: &mut [u16],
+    flags: &mut [u8],
+    area: &mut [u8],
+    bytes: &[u8],
+    memory: Memory,
+    address: u64,
+) -> Answer
+    ensures { λ r. ⌜ answered r (now (slots .exit)) (now (flags .exit)) (now (area .exit)) ≡ run does (storeBytes address (now (bytes .entry))) (stateOf (now (slots .entry)) (now (flags .entry)) (now (area .entry)) memory) ⌝ }
+{
+    if here::store(slots, flags, area, bytes, memory, address, FLAG_WXORX_BIT) {
+        return Answer {
+            outcome: Outcome::Done,
+            memory,
+        };
+    }
+    let answer = store_over(slots, flags, area, bytes, memory, address);
+    let outcome = answer.outcome;
+    let next = answer.memory;
+    Answer {
+        outcome,
+        memory: Memory {
+            size: memory.size,
+            used: next.used,
+            reservation: memory.reservation,
+        },
+    }
+}
+
+// Stores the low n bytes of a number, on any pages.
 fn store_wide(
     slots: &mut [u16],
     flags: &mut [u8],
@@ -307,7 +341,7 @@ fn store_wide(
 {
     let mut bytes = [0u8; 8];
     words::write_le(&mut bytes, 0, n, value);
-    store_bytes(slots, flags, area, &bytes[..n], memory, address)
+    store_over(slots, flags, area, &bytes[..n], memory, address)
 }
 
 // Stores the low 1 byte of a number.
@@ -321,6 +355,25 @@ pub fn store8(
 ) -> Answer
     ensures { λ r. ⌜ answered r (now (slots .exit)) (now (flags .exit)) (now (area .exit)) ≡ run does (storeWide 1 address value) (stateOf (now (slots .entry)) (now (flags .entry)) (now (area .entry)) memory) ⌝ }
 {
+    if here::store_wide(
+        slots,
+        flags,
+        area,
+        memory,
+        address,
+        value,
+        1,
+        FLAG_WXORX_BIT,
+    ) {
+        return Answer {
+            outcome: Outcome::Done,
+            memory: Memory {
+                size: memory.size,
+                used: memory.used,
+                reservation: memory.reservation,
+            },
+        };
+    }
     store_wide(slots, flags, area, memory, address, value, 1)
 }
 
@@ -335,6 +388,25 @@ pub fn store16(
 ) -> Answer
     ensures { λ r. ⌜ answered r (now (slots .exit)) (now (flags .exit)) (now (area .exit)) ≡ run does (storeWide 2 address value) (stateOf (now (slots .entry)) (now (flags .entry)) (now (area .entry)) memory) ⌝ }
 {
+    if here::store_wide(
+        slots,
+        flags,
+        area,
+        memory,
+        address,
+        value,
+        2,
+        FLAG_WXORX_BIT,
+    ) {
+        return Answer {
+            outcome: Outcome::Done,
+            memory: Memory {
+                size: memory.size,
+                used: memory.used,
+                reservation: memory.reservation,
+            },
+        };
+    }
     store_wide(slots, flags, area, memory, address, value, 2)
 }
 
@@ -349,6 +421,25 @@ pub fn store32(
 ) -> Answer
     ensures { λ r. ⌜ answered r (now (slots .exit)) (now (flags .exit)) (now (area .exit)) ≡ run does (storeWide 4 address value) (stateOf (now (slots .entry)) (now (flags .entry)) (now (area .entry)) memory) ⌝ }
 {
+    if here::store_wide(
+        slots,
+        flags,
+        area,
+        memory,
+        address,
+        value,
+        4,
+        FLAG_WXORX_BIT,
+    ) {
+        return Answer {
+            outcome: Outcome::Done,
+            memory: Memory {
+                size: memory.size,
+                used: memory.used,
+                reservation: memory.reservation,
+            },
+        };
+    }
     store_wide(slots, flags, area, memory, address, value, 4)
 }
 
@@ -363,6 +454,25 @@ pub fn store64(
 ) -> Answer
     ensures { λ r. ⌜ answered r (now (slots .exit)) (now (flags .exit)) (now (area .exit)) ≡ run does (storeWide 8 address value) (stateOf (now (slots .entry)) (now (flags .entry)) (now (area .entry)) memory) ⌝ }
 {
+    if here::store_wide(
+        slots,
+        flags,
+        area,
+        memory,
+        address,
+        value,
+        8,
+        FLAG_WXORX_BIT,
+    ) {
+        return Answer {
+            outcome: Outcome::Done,
+            memory: Memory {
+                size: memory.size,
+                used: memory.used,
+                reservation: memory.reservation,
+            },
+        };
+    }
     store_wide(slots, flags, area, memory, address, value, 8)
 }
 

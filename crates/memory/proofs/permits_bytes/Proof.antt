@@ -24,7 +24,11 @@ returns c =
     permitted-pages _ _ _ _ _ _ _ _ e (c .before .before .is-done .ensures) _ (c .before .if1 .taken) (c .permits-pages .ensures)
 
 returns-2 : tie.Need-returns-2
-returns-2 c = search (needs, permitted-not)
+returns-2 c =
+    let a = c .before .before .before .before .before .before .args in
+    let e : indicesOf (c .before .before .pages-within .result) ≡ pagesWithin maximum (a .address) (a .size) =
+    c .before .before .pages-within .ensures in
+    permitted-not _ _ _ _ _ _ _ _ e (c .before .is-done .ensures) (c .if1 .left)
 
 pub permits-bytes-spec : {M : Type 1} → statement M
 permits-bytes-spec =

@@ -10,6 +10,9 @@ mul-start c = search needs
 add-end : tie.Need-add-end
 add-end c = search needs
 
+mark-dirty-requires : tie.Need-mark-dirty-requires
+mark-dirty-requires c κs = search needs
+
 sub-copy-page : tie.Need-sub-copy-page
 sub-copy-page c = search needs
 
@@ -21,9 +24,6 @@ part-copy-page-end c = search needs
 
 copy-page-requires : tie.Need-copy-page-requires
 copy-page-requires c κs = search needs
-
-mark-dirty-requires : tie.Need-mark-dirty-requires
-mark-dirty-requires c κs = search needs
 
 same-length : tie.Need-same-length
 same-length c = search needs
@@ -40,11 +40,11 @@ copy-into-spec =
     (tie.spec
     mul-start
     add-end
+    mark-dirty-requires
     sub-copy-page
     part-copy-page-start
     part-copy-page-end
     copy-page-requires
-    mark-dirty-requires
     same-length
     same-length-2
     returns)

@@ -10,6 +10,9 @@ mul-start c = search needs
 add-end : tie.Need-add-end
 add-end c = search needs
 
+mark-dirty-requires : tie.Need-mark-dirty-requires
+mark-dirty-requires c κs = search needs
+
 sub-fill-page : tie.Need-sub-fill-page
 sub-fill-page c = search needs
 
@@ -21,9 +24,6 @@ part-fill-page-end c = search needs
 
 fill-page-requires : tie.Need-fill-page-requires
 fill-page-requires c κs = search needs
-
-mark-dirty-requires : tie.Need-mark-dirty-requires
-mark-dirty-requires c κs = search needs
 
 same-length : tie.Need-same-length
 same-length c = search needs
@@ -40,11 +40,11 @@ fill-into-spec =
     (tie.spec
     mul-start
     add-end
+    mark-dirty-requires
     sub-fill-page
     part-fill-page-start
     part-fill-page-end
     fill-page-requires
-    mark-dirty-requires
     same-length
     same-length-2
     returns)

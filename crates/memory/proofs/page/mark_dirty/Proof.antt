@@ -1,3 +1,4 @@
+-- The flag is ORed with dirty.
 use borrow.Author.Needs.{needs}
 use mathlib.Core.Path.{refl}
 use Rattle.memory.proofs.page.mark_dirty.Statement.{statement}

@@ -22,6 +22,9 @@ reachable-requires c κs = (fits-told _ _ _ _ _ (c .before .before .storage-fits
 is-done-requires : tie.Need-is-done-requires
 is-done-requires c κs = search needs
 
+returns-3 : tie.Need-returns-3
+returns-3 c = search (needs, bytes-stop)
+
 load-pages-requires : tie.Need-load-pages-requires
 load-pages-requires c κs =
     let r = c .before .before .before in
@@ -31,11 +34,8 @@ load-pages-requires c κs =
 same-length : tie.Need-same-length
 same-length c = search needs
 
-returns-3 : tie.Need-returns-3
-returns-3 c = search (needs, bytes-done)
-
 returns-4 : tie.Need-returns-4
-returns-4 c = search (needs, bytes-stop)
+returns-4 c = search (needs, bytes-done)
 
 pub load-bytes-spec : {M : Type 1} → statement M
 load-bytes-spec =
@@ -46,7 +46,7 @@ load-bytes-spec =
     returns-2
     reachable-requires
     is-done-requires
+    returns-3
     load-pages-requires
     same-length
-    returns-3
     returns-4)

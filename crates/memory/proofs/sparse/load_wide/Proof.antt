@@ -1,24 +1,20 @@
--- Right lengths, then the load.
+-- On one page that is in a slot, or on any pages.
 use borrow.Author.Needs.{needs}
-use Rattle.memory.specs.Storage.{noValue}
-use Rattle.memory.specs.Sparse.{loadWide}
-use Rattle.memory.proofs.Lengths.{fits-told, fit-yes, fit-not}
+use Rattle.memory.proofs.ShortPath.{here-loaded}
 use Rattle.memory.proofs.sparse.load_wide.Statement.{statement}
 use Rattle.memory.proofs.sparse.load_wide.Tie as tie
 
-storage-fits-requires : tie.Need-storage-fits-requires
-storage-fits-requires c κs = search needs
-
-load-wide-requires : tie.Need-load-wide-requires
-load-wide-requires c κs = search (needs, fits-told)
+load-requires : tie.Need-load-requires
+load-requires c κs = search needs
 
 returns : tie.Need-returns
-unfolding loadWide
-returns c = search (needs, fit-yes)
+returns c = search (needs, here-loaded)
+
+load-over-requires : tie.Need-load-over-requires
+load-over-requires c κs = search needs
 
 returns-2 : tie.Need-returns-2
-unfolding loadWide
-returns-2 c = search (needs, fit-not noValue)
+returns-2 c = search needs
 
 pub load-wide-spec : {M : Type 1} → statement M
-load-wide-spec = tie.close (tie.spec storage-fits-requires load-wide-requires returns returns-2)
+load-wide-spec = tie.close (tie.spec load-requires returns load-over-requires returns-2)

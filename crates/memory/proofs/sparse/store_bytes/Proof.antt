@@ -1,15 +1,11 @@
--- `memory::sparse::store_bytes` meets its contract: lengths are looked at first.
+-- On one page that is in a slot, or on any pages.
 use borrow.Author.Needs.{needs}
-use Rattle.memory.proofs.Lengths.{fits-told}
-use Rattle.memory.proofs.Store.{bytes-stored, bytes-refused}
+use Rattle.memory.proofs.ShortPath.{here-sparse, goes-on-from}
 use Rattle.memory.proofs.sparse.store_bytes.Statement.{statement}
 use Rattle.memory.proofs.sparse.store_bytes.Tie as tie
 
-storage-fits-requires : tie.Need-storage-fits-requires
-storage-fits-requires c κs = search needs
-
-store-pages-requires : tie.Need-store-pages-requires
-store-pages-requires c κs = (search (needs, fits-told), search needs)
+store-requires : tie.Need-store-requires
+store-requires c κs = search needs
 
 same-length : tie.Need-same-length
 same-length c = search needs
@@ -21,19 +17,34 @@ same-length-3 : tie.Need-same-length-3
 same-length-3 c = search needs
 
 returns : tie.Need-returns
-returns c = search (needs, bytes-stored)
+returns c = search (needs, here-sparse)
+
+store-over-requires : tie.Need-store-over-requires
+store-over-requires c κs = search needs
+
+same-length-4 : tie.Need-same-length-4
+same-length-4 c = search needs
+
+same-length-5 : tie.Need-same-length-5
+same-length-5 c = search needs
+
+same-length-6 : tie.Need-same-length-6
+same-length-6 c = search needs
 
 returns-2 : tie.Need-returns-2
-returns-2 c = search (needs, bytes-refused)
+returns-2 c = search (needs, goes-on-from)
 
 pub store-bytes-spec : {M : Type 1} → statement M
 store-bytes-spec =
     tie.close
     (tie.spec
-    storage-fits-requires
-    store-pages-requires
+    store-requires
     same-length
     same-length-2
     same-length-3
     returns
+    store-over-requires
+    same-length-4
+    same-length-5
+    same-length-6
     returns-2)

@@ -1,29 +1,11 @@
--- Lengths, no bytes, the check of permission, then the store.
+-- On one page that is in a slot, or on any pages.
 use borrow.Author.Needs.{needs}
-use Rattle.memory.specs.WXorX.{storeBytes}
-use Rattle.memory.proofs.WriteOrExecute.{stores-none, stores-done, stores-denied}
-use Rattle.memory.proofs.Lengths.{fits-told, fit-not}
+use Rattle.memory.proofs.ShortPath.{here-wxorx, goes-on-from}
 use Rattle.memory.proofs.wxorx.store_bytes.Statement.{statement}
 use Rattle.memory.proofs.wxorx.store_bytes.Tie as tie
 
-storage-fits-requires : tie.Need-storage-fits-requires
-storage-fits-requires c κs = search needs
-
-returns : tie.Need-returns
-unfolding storeBytes
-returns c = search (needs, fit-not (λ n. n))
-
-returns-2 : tie.Need-returns-2
-returns-2 c = stores-none _ _ _ _ (c .before .before .storage-fits .ensures) (c .before .if1 .taken) (c .if2 .taken)
-
-permits-bytes-requires : tie.Need-permits-bytes-requires
-permits-bytes-requires c κs = search needs
-
-is-done-requires : tie.Need-is-done-requires
-is-done-requires c κs = search needs
-
-store-pages-requires : tie.Need-store-pages-requires
-store-pages-requires c κs = (search (needs, fits-told), search needs)
+store-requires : tie.Need-store-requires
+store-requires c κs = search needs
 
 same-length : tie.Need-same-length
 same-length c = search needs
@@ -34,8 +16,11 @@ same-length-2 c = search needs
 same-length-3 : tie.Need-same-length-3
 same-length-3 c = search needs
 
-returns-3 : tie.Need-returns-3
-returns-3 c = search (needs, stores-done)
+returns : tie.Need-returns
+returns c = search (needs, here-wxorx)
+
+store-over-requires : tie.Need-store-over-requires
+store-over-requires c κs = search needs
 
 same-length-4 : tie.Need-same-length-4
 same-length-4 c = search needs
@@ -46,24 +31,20 @@ same-length-5 c = search needs
 same-length-6 : tie.Need-same-length-6
 same-length-6 c = search needs
 
-returns-4 : tie.Need-returns-4
-returns-4 c = search (needs, stores-denied)
+returns-2 : tie.Need-returns-2
+returns-2 c = search (needs, goes-on-from)
 
 pub store-bytes-spec : {M : Type 1} → statement M
 store-bytes-spec =
     tie.close
     (tie.spec
-    storage-fits-requires
-    returns
-    returns-2
-    permits-bytes-requires
-    is-done-requires
-    store-pages-requires
+    store-requires
     same-length
     same-length-2
     same-length-3
-    returns-3
+    returns
+    store-over-requires
     same-length-4
     same-length-5
     same-length-6
-    returns-4)
+    returns-2)

@@ -14,11 +14,11 @@ write-le-requires c κs = search needs
 array-share-prefix-bytes : tie.Need-array-share-prefix-bytes
 array-share-prefix-bytes c = search needs
 
-slice-aggregate-store-bytes : tie.Need-slice-aggregate-store-bytes
-slice-aggregate-store-bytes c = search (needs, wide-length)
+slice-aggregate-store-over : tie.Need-slice-aggregate-store-over
+slice-aggregate-store-over c = search (needs, wide-length)
 
-store-bytes-requires : tie.Need-store-bytes-requires
-store-bytes-requires c κs = search needs
+store-over-requires : tie.Need-store-over-requires
+store-over-requires c κs = search needs
 
 same-length : tie.Need-same-length
 same-length c = search needs
@@ -39,8 +39,8 @@ store-wide-spec =
     slice-aggregate-write-le
     write-le-requires
     array-share-prefix-bytes
-    slice-aggregate-store-bytes
-    store-bytes-requires
+    slice-aggregate-store-over
+    store-over-requires
     same-length
     same-length-2
     same-length-3

@@ -1,0 +1,43 @@
+-- The front of the array is the number's low bytes.
+use borrow.Author.Needs.{needs}
+use Rattle.memory.proofs.Store.{wide-length}
+use Rattle.memory.proofs.ShortPath.{here-wide}
+use Rattle.memory.proofs.here.store_wide.Statement.{statement}
+use Rattle.memory.proofs.here.store_wide.Tie as tie
+
+slice-aggregate-write-le : tie.Need-slice-aggregate-write-le
+slice-aggregate-write-le c = search needs
+
+write-le-requires : tie.Need-write-le-requires
+write-le-requires c κs = search needs
+
+array-share-prefix-bytes : tie.Need-array-share-prefix-bytes
+array-share-prefix-bytes c = search needs
+
+slice-aggregate-store : tie.Need-slice-aggregate-store
+slice-aggregate-store c = search (needs, wide-length)
+
+store-requires : tie.Need-store-requires
+store-requires c κs = search needs
+
+same-length : tie.Need-same-length
+same-length c = search needs
+
+same-length-2 : tie.Need-same-length-2
+same-length-2 c = search needs
+
+returns : tie.Need-returns
+returns c = search (needs, here-wide)
+
+pub store-wide-spec : {M : Type 1} → statement M
+store-wide-spec =
+    tie.close
+    (tie.spec
+    slice-aggregate-write-le
+    write-le-requires
+    array-share-prefix-bytes
+    slice-aggregate-store
+    store-requires
+    same-length
+    same-length-2
+    returns)

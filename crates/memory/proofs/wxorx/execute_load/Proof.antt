@@ -1,7 +1,12 @@
 -- Lengths, the check of permission, then the load.
 use borrow.Author.Needs.{needs}
-use Rattle.memory.specs.Storage.{noValue}
-use Rattle.memory.specs.WXorX.{executeLoad}
+use mathlib.Core.Path.{_≡_}
+use Rattle.outcome.specs.Numbers.{numberOf}
+use Rattle.program.specs.Program.{run}
+use Rattle.memory.specs.Pages.{executable}
+use Rattle.memory.specs.Operations.{does}
+use Rattle.memory.specs.Storage.{State, stateOf, noValue}
+use Rattle.memory.specs.WXorX.{permitted, executeLoad}
 use Rattle.memory.proofs.WriteOrExecute.{executes-done, executes-denied}
 use Rattle.memory.proofs.Lengths.{fits-told, fit-not}
 use Rattle.memory.proofs.wxorx.execute_load.Statement.{statement}
@@ -24,7 +29,14 @@ load-wide-requires : tie.Need-load-wide-requires
 load-wide-requires c κs = search (needs, fits-told)
 
 returns-2 : tie.Need-returns-2
-returns-2 c = search (needs, executes-done)
+returns-2 c =
+    let a = c .before .before .before .before .before .before .before .before .before .args in
+    let s : State = stateOf (a .slots .now) (a .flags .now) (a .area .now) (a .memory) in
+    let p : (numberOf (c .before .before .before .permits-bytes .result), s) ≡ run does (permitted executable (a .address) (a .n)) s =
+    c .before .before .before .permits-bytes .ensures in
+    executes-done s (a .address) (a .n) _ (c .before .before .before .before .before .storage-fits .ensures)
+    (c .before .before .before .before .if1 .taken) _ _ p (c .before .before .is-done .ensures) _ (c .before .if2 .taken)
+    (c .load-wide .ensures)
 
 returns-3 : tie.Need-returns-3
 returns-3 c = search (needs, executes-denied)

@@ -1,2 +1,3 @@
--- What a call of a crate below answered, handed out with its number.
+-- What a call of a crate below answered, handed out with its number; and that no second outcome fits.
 pub mod Handed
+pub mod Once

@@ -31,10 +31,11 @@ ghost use Rattle.memory.specs.Answers.{answered, indicesOf};
 use bits::RISCV_PAGESIZE;
 use outcome::Outcome;
 
-// The most bytes of a memory, and the bytes of a page, as numbers of 64 bits.
+// The most bytes of a memory.
 pub const RISCV_MAX_MEMORY: u64 = 4194304;
 
-pub const PAGE: u64 = 4096;
+// The bytes of a page, as a number of 64 bits.
+pub const PAGE: u64 = RISCV_PAGESIZE as u64;
 
 // The bits of a page's flag.
 pub const FLAG_FREEZED: u8 = 1;
@@ -47,10 +48,14 @@ pub const FLAG_WRITABLE: u8 = 0;
 
 pub const FLAG_DIRTY: u8 = 4;
 
-// The slot number of an absent page; the most slots that may be lent.
+// The slot number of an absent page.
 pub const INVALID_PAGE_INDEX: usize = 65535;
 
+// The most slots that may be lent.
 pub const MOST_SLOTS: usize = 65535;
+
+// The reservation of a fresh memory.
+pub const NO_RESERVATION: u64 = 18446744073709551615;
 
 // A memory's own numbers: its bytes, its slots in use (the lowest so many), and the reservation.
 #[repr(C)]

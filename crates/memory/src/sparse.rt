@@ -14,6 +14,7 @@ ghost use Rattle.memory.specs.Inner.{Same};
 use super::Answer;
 use super::INVALID_PAGE_INDEX;
 use super::Memory;
+use super::NO_RESERVATION;
 use super::PAGE;
 use super::Value;
 use super::here;
@@ -45,7 +46,7 @@ pub fn fresh(slots: &mut [u16], flags: &mut [u8], area: &mut [u8], size: u64) ->
     let memory = Memory {
         size,
         used: 0,
-        reservation: 18446744073709551615,
+        reservation: NO_RESERVATION,
     };
     if super::storage_fits(slots.len(), flags.len(), area.len(), memory) {
         clear_slots(slots);
@@ -266,7 +267,7 @@ fn store_wide(
     store_over(slots, flags, area, &bytes[..n], memory, address)
 }
 
-// Stores the low 1 byte of a number.
+// Stores the low byte of a number.
 pub fn store8(
     slots: &mut [u16],
     flags: &mut [u8],

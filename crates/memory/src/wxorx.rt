@@ -344,7 +344,7 @@ fn store_wide(
     store_over(slots, flags, area, &bytes[..n], memory, address)
 }
 
-// Stores the low 1 byte of a number.
+// Stores the low byte of a number.
 pub fn store8(
     slots: &mut [u16],
     flags: &mut [u8],

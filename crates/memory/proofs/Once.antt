@@ -1,6 +1,7 @@
 -- No second outcome fits a promise: one law for each form that a promise of this crate has. In each, x is what the definition
 -- gives, and two answers, with the lists that they left, that both are x are the same.
 use mathlib.Core.Path.{_≡_, ap, sym, _∙_}
+use mathlib.Core.Bool.{Bool}
 use mathlib.Core.List.{List}
 use Prim.Native.Nat.{ℕ}
 use Rattle.outcome.specs.declared.Outcome.{Outcome}
@@ -79,3 +80,7 @@ number-is-once r q x e f = e ∙ sym f
 -- set_lr
 pub memory-once : (r q x : Memory) → r ≡ x → q ≡ x → r ≡ q
 memory-once r q x e f = e ∙ sym f
+
+-- storage_fits
+pub told-once : (r q x : Bool) → r ≡ x → q ≡ x → r ≡ q
+told-once r q x e f = e ∙ sym f

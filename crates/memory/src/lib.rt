@@ -85,7 +85,7 @@ pub struct Indices {
 }
 
 // Whether the lent lengths are right.
-fn storage_fits(slots: usize, flags: usize, area: usize, memory: Memory) -> bool
+pub fn storage_fits(slots: usize, flags: usize, area: usize, memory: Memory) -> bool
     ensures { λ r. ⌜ r ≡ fitsLengths slots flags area memory ⌝ }
 {
     let size = memory.size;

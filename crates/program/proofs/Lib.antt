@@ -1,4 +1,5 @@
 -- What holds of all programs.
 pub mod Laws
+pub mod Lifted
 pub mod Like
 pub mod Keeps

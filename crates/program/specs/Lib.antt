@@ -1,2 +1,3 @@
--- Calls as programs.
+-- Calls as programs, and layers of them.
 pub mod Program
+pub mod Layers

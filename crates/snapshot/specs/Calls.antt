@@ -1,0 +1,102 @@
+-- The public calls on a machine as data: what each is given, what it answers, and its meaning, by the definitions that its
+-- promise cites.
+use mathlib.Core.Bool.{cond}
+use mathlib.Core.List.{List, [], _∷_}
+use mathlib.Core.Path.{_≡_}
+use Prim.Native.Nat.{ℕ}
+use lib.ListN.{length}
+use lib.Bits.{bitAnd}
+use Rattle.program.specs.Program.{ret, perform, run}
+use Rattle.program.specs.Layers.{own, lift}
+use Rattle.memory.specs.Pages.{dirty}
+use Rattle.memory.specs.Storage.{Valued}
+use Rattle.memory.specs.Sparse as memory
+use Rattle.memory.specs.Calls as memory
+use Rattle.machine.specs.Fresh.{Tracked, LentMachine}
+use Rattle.machine.specs.Operations as machine
+use Rattle.snapshot.specs.Sources.{Data, findData, dataOf}
+use Rattle.snapshot.specs.Operations.{MachineCall, machineDoes, onMemory}
+use Rattle.snapshot.specs.Tracking.{Stored, Recorded, trackPages, untrackPages, storeBytes, markProgram, pageRecord}
+
+-- every public call but fresh and clear_flag
+pub data Named : Type 0 where
+  -- on the machine's memory, and on its numbers
+  on-memory : memory.Named → Named
+  on-numbers : machine.Op → Named
+  -- directory, source bytes, id, offset, length
+  load-data : List ℕ → List ℕ → ℕ → ℕ → ℕ → Named
+  -- start, length, id, offset
+  track-pages : ℕ → ℕ → ℕ → ℕ → Named
+  untrack-pages : ℕ → ℕ → Named
+  -- directory, source bytes, address, id, offset, length, size address
+  store-bytes : List ℕ → List ℕ → ℕ → ℕ → ℕ → ℕ → ℕ → Named
+  -- actions, id, offset
+  mark-program : List ℕ → ℕ → ℕ → Named
+  page-record : ℕ → Named
+
+-- what is loaded: the place, and the part of the source bytes
+pub record Loaded : Type 0 where
+  pub place : Data
+  pub bytes : List ℕ
+
+abbrev pub loaded : List ℕ → Data → Loaded
+loaded sources d = record { place = d; bytes = dataOf sources d }
+
+abbrev pub Answers : Named → Type 0
+Answers (on-memory c) = memory.Answers c
+Answers (on-numbers o) = machine.Reply o
+Answers (load-data directory sources id offset wanted) = Loaded
+Answers (track-pages start size id offset) = ℕ
+Answers (untrack-pages start size) = ℕ
+Answers (store-bytes directory sources a id offset wanted sizeAt) = Stored
+Answers (mark-program actions id offset) = ℕ
+Answers (page-record p) = Recorded
+
+abbrev pub program : (c : Named) → MachineCall (Answers c)
+program (on-memory c) = lift (onMemory (memory.program c))
+program (on-numbers o) = perform (own o)
+program (load-data directory sources id offset wanted) =
+    ret (loaded sources (findData directory (length sources) id offset wanted))
+program (track-pages start size id offset) = lift (trackPages start size id offset)
+program (untrack-pages start size) = lift (untrackPages start size)
+program (store-bytes directory sources a id offset wanted sizeAt) = lift (storeBytes directory sources a id offset wanted sizeAt)
+program (mark-program actions id offset) = lift (markProgram actions id offset)
+program (page-record p) = lift (pageRecord p)
+
+-- ---- calls in turn
+
+-- one of the calls above, or a flag cleared
+pub data Given : Type 0 where
+  named : Named → Given
+  clear-flag : ℕ → ℕ → Given
+
+abbrev pub AnswerTo : Given → Type 0
+AnswerTo (named c) = Answers c
+AnswerTo (clear-flag p f) = ℕ
+
+-- a flag cleared in a memory, beside records and numbers that stay
+abbrev pub clearFlag : ℕ → ℕ → Tracked → ℕ × Tracked
+clearFlag p f m = ((memory.clearFlag p f (m .0)) .0, ((memory.clearFlag p f (m .0)) .1, m .1))
+
+-- what a call answers and leaves
+abbrev pub answer : (g : Given) → LentMachine → AnswerTo g × LentMachine
+answer (named c) m = run machineDoes (program c) m
+answer (clear-flag p f) m = ((clearFlag p f (m .0)) .0, ((clearFlag p f (m .0)) .1, m .1))
+
+-- a call that does not clear dirty directly
+abbrev pub Careful : Given → Type 0
+Careful (named c) = Unit {0}
+Careful (clear-flag p f) = bitAnd f dirty ≡ 0
+
+-- a call with its answer
+pub data Told : Type 0 where
+  told : (g : Given) → AnswerTo g → Told
+
+-- what calls answer one after another, and what they leave
+unfoldable pub answers : List Given → LentMachine → List Told
+answers [] m = []
+answers (g ∷ gs) m = told g ((answer g m) .0) ∷ answers gs ((answer g m) .1)
+
+unfoldable pub leaves : List Given → LentMachine → LentMachine
+leaves [] m = m
+leaves (g ∷ gs) m = leaves gs ((answer g m) .1)

@@ -1,0 +1,9 @@
+-- Document 01, "Sources and tracking", in its order: sources, page records, the operations that calls are made of, the calls,
+-- what a call answers, and what a caller sees.
+pub mod Sources
+pub mod Records
+pub mod Operations
+pub mod Tracking
+pub mod Answers
+pub mod View
+pub mod Calls

@@ -10,7 +10,7 @@ use Rattle.program.specs.Program.{ret, perform, run}
 use Rattle.program.specs.Layers.{own, lift}
 use Rattle.memory.specs.Pages.{dirty}
 use Rattle.memory.specs.Storage.{Valued}
-use Rattle.memory.specs.Sparse as memory
+use Rattle.memory.specs.Sparse as sparse
 use Rattle.memory.specs.Calls as memory
 use Rattle.machine.specs.Fresh.{Tracked, LentMachine}
 use Rattle.machine.specs.Operations as machine
@@ -76,7 +76,7 @@ AnswerTo (clear-flag p f) = ℕ
 
 -- a flag cleared in a memory, beside records and numbers that stay
 abbrev pub clearFlag : ℕ → ℕ → Tracked → ℕ × Tracked
-clearFlag p f m = ((memory.clearFlag p f (m .0)) .0, ((memory.clearFlag p f (m .0)) .1, m .1))
+clearFlag p f m = ((sparse.clearFlag p f (m .0)) .0, ((sparse.clearFlag p f (m .0)) .1, m .1))
 
 -- what a call answers and leaves
 abbrev pub answer : (g : Given) → LentMachine → AnswerTo g × LentMachine

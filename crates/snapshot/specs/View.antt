@@ -7,7 +7,7 @@ use lib.Dec.{eqb, ltb, leb}
 use Rattle.bits.specs.Rounding.{pageSize}
 use Rattle.program.specs.Layers.{low, own, over, beside}
 use Rattle.memory.specs.Pages.{dirty, cleared}
-use Rattle.memory.specs.Operations as memory
+use Rattle.memory.specs.Operations.{or! }
 use Rattle.memory.specs.View as memory
 use Rattle.machine.specs.Fresh.{Tracked, LentMachine, recordWords}
 use Rattle.machine.specs.Numbers.{Numbers}
@@ -66,7 +66,7 @@ doesV (own (track! p id offset)) v =
     (cond (leb (offset + pageSize) top) (0, trackedV v p id offset) (2, v))
     (2, v)
 -- to drop a record is, seen from outside, to set the dirty flag
-doesV (own (drop! p)) v = remasked v (memory.doesV (memory.or! p dirty) (v .memory))
+doesV (own (drop! p)) v = remasked v (memory.doesV (or! p dirty) (v .memory))
 
 -- a flag cleared, on the view: of a clear that leaves dirty as it is
 abbrev pub clearFlagV : ℕ → ℕ → View → ℕ × View

@@ -1,13 +1,13 @@
 // The calls of Snapshot2Context: context store, mark program, track and untrack.
 ghost use mathlib.Core.Path.{_≡_};
-ghost use Prim.Native.Nat.{_*_};
+ghost use Prim.Native.Nat.{_+_, _*_, _<_};
 ghost use lib.ListN.{length};
 ghost use Rattle.outcome.specs.Numbers.{numberOf};
 ghost use Rattle.program.specs.Program.{run, perform};
 ghost use Rattle.program.specs.Layers.{own};
 ghost use Rattle.machine.specs.Fresh.{recordWords};
 ghost use Rattle.snapshot.specs.Operations.{does, track!, drop! };
-ghost use Rattle.snapshot.specs.Tracking.{distance, trackWhole, trackPages, dropWhole, untrackPages, storeTracked, replace, storeData, storeBytes, actionAt, markAction, markActions, markProgram};
+ghost use Rattle.snapshot.specs.Tracking.{distance, trackWhole, trackPages, dropWhole, untrackPages, storeTracked, replace, storeData, storeBytes, actionWords, actionAt, markAction, markActions, markProgram};
 ghost use Rattle.snapshot.specs.Answers.{trackedOf, answered, contextOf};
 use super::records;
 use super::records::Tracking;
@@ -52,19 +52,19 @@ fn store_tracked(
     flags: &mut [u8],
     area: &mut [u8],
     records: &mut [u64],
-    data: &[u8],
+    bytes: &[u8],
     memory: Memory,
     address: u64,
     id: u64,
     offset: u64,
 ) -> Answer
-    ensures { λ r. ⌜ answered r (now (slots .exit)) (now (flags .exit)) (now (area .exit)) (now (records .exit)) ≡ run does (storeTracked address id offset (now (data .entry))) (trackedOf (now (slots .entry)) (now (flags .entry)) (now (area .entry)) (now (records .entry)) memory) ⌝ }
+    ensures { λ r. ⌜ answered r (now (slots .exit)) (now (flags .exit)) (now (area .exit)) (now (records .exit)) ≡ run does (storeTracked address id offset (now (bytes .entry))) (trackedOf (now (slots .entry)) (now (flags .entry)) (now (area .entry)) (now (records .entry)) memory) ⌝ }
 {
-    let answer = wxorx::store_bytes(slots, flags, area, data, memory, address);
+    let answer = wxorx::store_bytes(slots, flags, area, bytes, memory, address);
     let outcome = answer.outcome;
     let next = answer.memory;
     if outcome::is_done(outcome) {
-        let size = data.len() as u64;
+        let size = bytes.len() as u64;
         let tracked = track_pages(slots, flags, area, records, next, address, size, id, offset);
         return Answer {
             outcome: tracked,
@@ -83,18 +83,28 @@ fn replace(
     flags: &mut [u8],
     area: &mut [u8],
     records: &mut [u64],
-    data: &[u8],
+    bytes: &[u8],
     memory: Memory,
     address: u64,
     id: u64,
     offset: u64,
 ) -> Answer
-    ensures { λ r. ⌜ answered r (now (slots .exit)) (now (flags .exit)) (now (area .exit)) (now (records .exit)) ≡ run does (replace address id offset (now (data .entry))) (trackedOf (now (slots .entry)) (now (flags .entry)) (now (area .entry)) (now (records .entry)) memory) ⌝ }
+    ensures { λ r. ⌜ answered r (now (slots .exit)) (now (flags .exit)) (now (area .exit)) (now (records .exit)) ≡ run does (replace address id offset (now (bytes .entry))) (trackedOf (now (slots .entry)) (now (flags .entry)) (now (area .entry)) (now (records .entry)) memory) ⌝ }
 {
-    let size = data.len() as u64;
+    let size = bytes.len() as u64;
     let outcome = untrack_pages(slots, flags, area, records, memory, address, size);
     if outcome::is_done(outcome) {
-        return store_tracked(slots, flags, area, records, data, memory, address, id, offset);
+        return store_tracked(
+            slots,
+            flags,
+            area,
+            records,
+            bytes,
+            memory,
+            address,
+            id,
+            offset,
+        );
     }
     Answer { outcome, memory }
 }
@@ -105,7 +115,7 @@ fn store_data(
     flags: &mut [u8],
     area: &mut [u8],
     records: &mut [u64],
-    data: &[u8],
+    bytes: &[u8],
     memory: Memory,
     address: u64,
     id: u64,
@@ -113,13 +123,23 @@ fn store_data(
     place: u64,
     full: u64,
 ) -> Answer
-    ensures { λ r. ⌜ answered r (now (slots .exit)) (now (flags .exit)) (now (area .exit)) (now (records .exit)) ≡ run does (storeData place full address id offset (now (data .entry))) (trackedOf (now (slots .entry)) (now (flags .entry)) (now (area .entry)) (now (records .entry)) memory) ⌝ }
+    ensures { λ r. ⌜ answered r (now (slots .exit)) (now (flags .exit)) (now (area .exit)) (now (records .exit)) ≡ run does (storeData place full address id offset (now (bytes .entry))) (trackedOf (now (slots .entry)) (now (flags .entry)) (now (area .entry)) (now (records .entry)) memory) ⌝ }
 {
     let answer = wxorx::store64(slots, flags, area, memory, place, full);
     let outcome = answer.outcome;
     let next = answer.memory;
     if outcome::is_done(outcome) {
-        return replace(slots, flags, area, records, data, next, address, id, offset);
+        return replace(
+            slots,
+            flags,
+            area,
+            records,
+            bytes,
+            next,
+            address,
+            id,
+            offset,
+        );
     }
     Answer {
         outcome,
@@ -197,7 +217,7 @@ pub fn store_bytes(
 
 // Action `i` of lent numbers in sixes.
 fn action_at(actions: &[u64], i: usize) -> LoadingAction
-    requires { ⌜ i * 6 + 5 < length (now actions) ⌝ }
+    requires { ⌜ i * actionWords + 5 < length (now actions) ⌝ }
     ensures { λ r. ⌜ r ≡ actionAt (now (actions .entry)) i ⌝ }
 {
     let at = i * ACTION_WORDS;
@@ -363,7 +383,7 @@ fn track_whole(
 fn distance(start: u64) -> u64
     ensures { λ r. ⌜ r ≡ distance start ⌝ }
 {
-    bits::round_page_up(start).wrapping_sub(start)
+    std::num::wrapping_sub_u64(bits::round_page_up(start), start)
 }
 
 // Tracks the whole pages of `size` bytes from `start` on, which come from an item of the sources, from `offset` on.
@@ -395,7 +415,17 @@ pub fn track_pages(
     }
     let first = (start + d) / PAGE;
     let count = (size - d) / PAGE;
-    track_whole(slots, flags, area, records, memory, first, count, id, offset + d)
+    track_whole(
+        slots,
+        flags,
+        area,
+        records,
+        memory,
+        first,
+        count,
+        id,
+        offset + d,
+    )
 }
 
 // ---- untrack

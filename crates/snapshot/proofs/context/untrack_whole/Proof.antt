@@ -1,0 +1,79 @@
+use Rattle.snapshot.proofs.context.untrack_whole.Statement.{statement}
+use Rattle.snapshot.proofs.context.untrack_whole.Tie as tie
+use Rattle.snapshot.proofs.context.untrack_whole.Reads as reads
+use Rattle.snapshot.proofs.context.untrack_whole.Lts as lts
+use Rattle.outcome.proofs.is_done.Reads as is-done-reads
+use Rattle.snapshot.proofs.context.untrack_page.Reads as untrack-page-reads
+
+abbrev Inv-loop : tie.InvT-loop
+Inv-loop slots flags₀ area records₀ memory first last page₀ flags records page = ?
+
+abbrev μ-loop : tie.MeasureT-loop
+μ-loop slots flags₀ area records₀ memory first last page₀ flags records page = ?
+
+-- src/context.rt:438:5
+loop-holds : tie.Need-loop-holds Inv-loop μ-loop
+loop-holds c = ?
+
+-- src/context.rt:439:13
+untrack-page-requires : tie.Need-untrack-page-requires Inv-loop μ-loop
+untrack-page-requires c κs = ?
+
+-- src/context.rt:440:12
+is-done-requires : tie.Need-is-done-requires Inv-loop μ-loop
+is-done-requires c κs = ?
+
+-- src/context.rt:441:13
+same-length : tie.Need-same-length Inv-loop μ-loop
+same-length c = ?
+
+-- src/context.rt:441:13
+same-length-2 : tie.Need-same-length-2 Inv-loop μ-loop
+same-length-2 c = ?
+
+-- src/context.rt:441:13
+returns : tie.Need-returns Inv-loop μ-loop
+returns c = ?
+
+-- src/context.rt:443:9
+add-page : tie.Need-add-page Inv-loop μ-loop
+add-page c = ?
+
+-- src/context.rt:438:5
+loop-less : tie.Need-loop-less Inv-loop μ-loop
+loop-less c = ?
+
+-- src/context.rt:438:5
+loop-again : tie.Need-loop-again Inv-loop μ-loop
+loop-again c = ?
+
+-- src/context.rt:425:1
+same-length-3 : tie.Need-same-length-3 Inv-loop μ-loop
+same-length-3 c = ?
+
+-- src/context.rt:425:1
+same-length-4 : tie.Need-same-length-4 Inv-loop μ-loop
+same-length-4 c = ?
+
+-- src/context.rt:425:1
+returns-2 : tie.Need-returns-2 Inv-loop μ-loop
+returns-2 c = ?
+
+pub untrack-whole-spec : {M : Type 1} → statement M
+untrack-whole-spec =
+    tie.close
+    (tie.spec
+    Inv-loop
+    μ-loop
+    loop-holds
+    untrack-page-requires
+    is-done-requires
+    same-length
+    same-length-2
+    returns
+    add-page
+    loop-less
+    loop-again
+    same-length-3
+    same-length-4
+    returns-2)

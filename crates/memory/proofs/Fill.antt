@@ -19,7 +19,7 @@ use Rattle.memory.specs.Inner.{At}
 use Rattle.memory.proofs.Store.{store-at}
 
 -- no more than there are
-take-least : (l : List ℕ) (room n : ℕ) → n ≡ min room (length l) → take n l ≡ take room l
+pub take-least : (l : List ℕ) (room n : ℕ) → n ≡ min room (length l) → take n l ≡ take room l
 take-least l room n h = elim (decLe (length l) room) [
   | yes k ↦ take-all n l (omega arith) ∙ sym (take-all room l k)
   | no k ↦ let z : n ≡ room = omega arith in rw z

@@ -1,6 +1,7 @@
 -- A program on storage and the same program on what is seen of it.
 use mathlib.Core.Path.{_≡_, refl, sym, ap, _∙_, subst₂}
 use Rattle.program.specs.Program.{Prog, ret, ask, run}
+use Rattle.program.specs.Layers.{Plus, low, own, over, beside}
 
 -- a reply and what is left, beside the same on the view
 pub record Like {S W : Type 0} (Good : S → Type 0) (view : S → W) {A : Type 0} (r : A × S) (q : A × W) : Type 0 where
@@ -31,3 +32,16 @@ module _ {Op : Type 0} {Reply : Op → Type 0} {S W : Type 0} (Good : S → Type
       let r = commutes g t wt in
       let q : run doesV g (view s) ≡ run doesV g (view t) = ap (run doesV g) e in
       (l .out ∙ ap (λ (x : A × W). x .0) q ∙ sym (r .out), l .seen ∙ ap (λ (x : A × W). x .1) q ∙ sym (r .seen))
+
+-- if the operations below are the same on the view, then so are those of a layer whose own touch the upper state alone
+module _ {Low Own : Type 0} {R : Low → Type 0} {Q : Own → Type 0} {S T W : Type 0} (Good : S → Type 0) (view : S → W)
+    (below : (o : Low) → S → R o × S) (belowV : (o : Low) → W → R o × W)
+    (like : (o : Low) (s : S) → Good s → Like Good view (below o s) (belowV o (view s)))
+    (owns : (o : Own) → T → Q o × T) where
+  pub like-beside : (o : Plus Low Own) (m : S × T) → Good (m .0)
+      → Like (λ (n : S × T). Good (n .0)) (λ (n : S × T). (view (n .0), n .1)) (over below (beside owns) o m)
+      (over belowV (beside owns) o (view (m .0), m .1))
+  like-beside (low o) m w =
+      let l = like o (m .0) w in
+      record { out = l .out; good = l .good; seen = λ i. (l .seen i, m .1) }
+  like-beside (own o) m w = record { out = refl; good = w; seen = refl }

@@ -343,7 +343,8 @@ fn track_page(
     if offset >= LAST_PAGE {
         return Outcome::MemOutOfBound;
     }
-    let flag = flags[p] & !FLAG_DIRTY;
+    let before = flags[p];
+    let flag = before & !FLAG_DIRTY;
     flags[p] = flag;
     records::write_record(records, page, Tracking::Tracked(id, offset, flag));
     Outcome::Done
@@ -413,8 +414,9 @@ pub fn track_pages(
     if u64::MAX - offset < d {
         return Outcome::MemOutOfBound;
     }
+    let rest = size - d;
     let first = (start + d) / PAGE;
-    let count = (size - d) / PAGE;
+    let count = rest / PAGE;
     track_whole(
         slots,
         flags,

@@ -1,68 +1,55 @@
+-- Invariant: the actions that are left, with flags and records as they are, come to what all come to with those at entry. Measure: how many are left.
+use Prim.Native.Nat.{_-_}
+use borrow.Author.Needs.{needs}
+use Rattle.snapshot.proofs.MarkProgram.{Marking, marking-first, marking-next, marking-stop, marked-all}
 use Rattle.snapshot.proofs.context.init_all.Statement.{statement}
 use Rattle.snapshot.proofs.context.init_all.Tie as tie
-use Rattle.snapshot.proofs.context.init_all.Reads as reads
-use Rattle.snapshot.proofs.context.init_all.Lts as lts
-use Rattle.outcome.proofs.is_done.Reads as is-done-reads
-use Rattle.snapshot.proofs.context.action_at.Reads as action-at-reads
-use Rattle.snapshot.proofs.context.init_pages.Reads as init-pages-reads
 
 abbrev Inv-loop : tie.InvT-loop
-Inv-loop slots flags₀ area records₀ actions memory id offset count i₀ flags records i = ?
+Inv-loop slots flags₀ area records₀ actions memory id offset count i₀ flags records i =
+    Marking slots area actions memory id offset count flags₀ records₀ flags records i
 
 abbrev μ-loop : tie.MeasureT-loop
-μ-loop slots flags₀ area records₀ actions memory id offset count i₀ flags records i = ?
+μ-loop slots flags₀ area records₀ actions memory id offset count i₀ flags records i = count - i
 
--- src/context.rt:273:5
 loop-holds : tie.Need-loop-holds Inv-loop μ-loop
-loop-holds c = ?
+loop-holds c = search (needs, marking-first)
 
--- src/context.rt:274:13
 action-at-requires : tie.Need-action-at-requires Inv-loop μ-loop
-action-at-requires c κs = ?
+action-at-requires c κs = search needs
 
--- src/context.rt:275:13
 init-pages-requires : tie.Need-init-pages-requires Inv-loop μ-loop
-init-pages-requires c κs = ?
+init-pages-requires c κs = search needs
 
--- src/context.rt:276:12
 is-done-requires : tie.Need-is-done-requires Inv-loop μ-loop
-is-done-requires c κs = ?
+is-done-requires c κs = search needs
 
--- src/context.rt:277:13
 same-length : tie.Need-same-length Inv-loop μ-loop
-same-length c = ?
+same-length c = search needs
 
--- src/context.rt:277:13
 same-length-2 : tie.Need-same-length-2 Inv-loop μ-loop
-same-length-2 c = ?
+same-length-2 c = search needs
 
--- src/context.rt:277:13
 returns : tie.Need-returns Inv-loop μ-loop
-returns c = ?
+returns c = search (needs, marking-stop)
 
--- src/context.rt:279:9
 add-i : tie.Need-add-i Inv-loop μ-loop
-add-i c = ?
+add-i c = search needs
 
--- src/context.rt:273:5
 loop-less : tie.Need-loop-less Inv-loop μ-loop
-loop-less c = ?
+loop-less c = search needs
 
--- src/context.rt:273:5
 loop-again : tie.Need-loop-again Inv-loop μ-loop
-loop-again c = ?
+loop-again c = search (needs, marking-next)
 
--- src/context.rt:259:1
 same-length-3 : tie.Need-same-length-3 Inv-loop μ-loop
-same-length-3 c = ?
+same-length-3 c = search needs
 
--- src/context.rt:259:1
 same-length-4 : tie.Need-same-length-4 Inv-loop μ-loop
-same-length-4 c = ?
+same-length-4 c = search needs
 
--- src/context.rt:259:1
 returns-2 : tie.Need-returns-2 Inv-loop μ-loop
-returns-2 c = ?
+returns-2 c = search (needs, marked-all)
 
 pub init-all-spec : {M : Type 1} → statement M
 init-all-spec =

@@ -1,59 +1,44 @@
+-- The store, then the tracking.
 use borrow.Author.Needs.{needs}
+use Rattle.snapshot.proofs.ContextSteps.{bytes-stored, bytes-refused}
 use Rattle.snapshot.proofs.context.store_tracked.Statement.{statement}
 use Rattle.snapshot.proofs.context.store_tracked.Tie as tie
-use Rattle.snapshot.proofs.context.store_tracked.Reads as reads
-use Rattle.snapshot.proofs.context.store_tracked.Lts as lts
-use Rattle.memory.proofs.wxorx.store_bytes.Reads as store-bytes-reads
-use Rattle.outcome.proofs.is_done.Reads as is-done-reads
-use Rattle.snapshot.proofs.context.track_pages.Reads as track-pages-reads
 
--- src/context.rt:63:9
 store-bytes-requires : tie.Need-store-bytes-requires
 store-bytes-requires c κs = search needs
 
--- src/context.rt:66:8
 is-done-requires : tie.Need-is-done-requires
 is-done-requires c κs = search needs
 
--- src/context.rt:68:13
 track-pages-requires : tie.Need-track-pages-requires
 track-pages-requires c κs = search needs
 
--- src/context.rt:69:9
 same-length : tie.Need-same-length
 same-length c = search needs
 
--- src/context.rt:69:9
 same-length-2 : tie.Need-same-length-2
 same-length-2 c = search needs
 
--- src/context.rt:69:9
 same-length-3 : tie.Need-same-length-3
 same-length-3 c = search needs
 
--- src/context.rt:69:9
 same-length-4 : tie.Need-same-length-4
 same-length-4 c = search needs
 
--- src/context.rt:69:9
 returns : tie.Need-returns
-returns c = ?
+returns c = search (needs, bytes-stored)
 
--- src/context.rt:50:1
 same-length-5 : tie.Need-same-length-5
 same-length-5 c = search needs
 
--- src/context.rt:50:1
 same-length-6 : tie.Need-same-length-6
 same-length-6 c = search needs
 
--- src/context.rt:50:1
 same-length-7 : tie.Need-same-length-7
 same-length-7 c = search needs
 
--- src/context.rt:50:1
 returns-2 : tie.Need-returns-2
-returns-2 c = ?
+returns-2 c = search (needs, bytes-refused)
 
 pub store-tracked-spec : {M : Type 1} → statement M
 store-tracked-spec =

@@ -1,63 +1,50 @@
+-- Lengths, the distance, the two bounds, then the whole pages.
 use borrow.Author.Needs.{needs}
+use Rattle.snapshot.specs.Tracking.{trackPages}
+use Rattle.snapshot.proofs.Lengths.{fit-not, records-told}
+use Rattle.snapshot.proofs.TrackPages.{track-short, track-high, track-late, track-all}
 use Rattle.snapshot.proofs.context.track_pages.Statement.{statement}
 use Rattle.snapshot.proofs.context.track_pages.Tie as tie
-use Rattle.snapshot.proofs.context.track_pages.Reads as reads
-use Rattle.snapshot.proofs.context.track_pages.Lts as lts
-use Rattle.snapshot.proofs.context.distance.Reads as distance-reads
-use Rattle.snapshot.proofs.context.track_whole.Reads as track-whole-reads
-use Rattle.snapshot.proofs.lengths_fit.Reads as lengths-fit-reads
 
--- src/context.rt:383:8
 lengths-fit-requires : tie.Need-lengths-fit-requires
 lengths-fit-requires c κs = search needs
 
--- src/context.rt:384:9
 returns : tie.Need-returns
-returns c = ?
+unfolding trackPages
+returns c = search (needs, fit-not (λ n. n))
 
--- src/context.rt:386:9
 distance-requires : tie.Need-distance-requires
 distance-requires c κs = search needs
 
--- src/context.rt:388:9
 returns-2 : tie.Need-returns-2
-returns-2 c = ?
+returns-2 c = search (needs, track-short)
 
--- src/context.rt:391:9
 returns-3 : tie.Need-returns-3
-returns-3 c = ?
+returns-3 c = search (needs, track-high)
 
--- src/context.rt:393:8
 sub-if4 : tie.Need-sub-if4
 sub-if4 c = search needs
 
--- src/context.rt:394:9
 returns-4 : tie.Need-returns-4
-returns-4 c = ?
+returns-4 c = search (needs, track-late)
 
--- src/context.rt:396:18
 add-first : tie.Need-add-first
 add-first c = search needs
 
--- src/context.rt:398:72
 add-track-whole : tie.Need-add-track-whole
 add-track-whole c = search needs
 
--- src/context.rt:398:5
 track-whole-requires : tie.Need-track-whole-requires
-track-whole-requires c κs = ?
+track-whole-requires c κs = search (needs, records-told)
 
--- src/context.rt:370:1
 same-length : tie.Need-same-length
 same-length c = search needs
 
--- src/context.rt:370:1
 same-length-2 : tie.Need-same-length-2
 same-length-2 c = search needs
 
--- src/context.rt:370:1
 returns-5 : tie.Need-returns-5
-returns-5 c = ?
+returns-5 c = search (needs, track-all)
 
 pub track-pages-spec : {M : Type 1} → statement M
 track-pages-spec =

@@ -1,73 +1,58 @@
+-- Invariant: the pages that are left, with flags and records as they are, come to what all come to with those at entry. Measure: how many are left.
+use borrow.Author.Needs.{needs}
+use Rattle.snapshot.proofs.TrackPages.{Left, left-here, left-none, left-stop, left-page, left-turn, tracked-offset}
 use Rattle.snapshot.proofs.context.track_whole.Statement.{statement}
 use Rattle.snapshot.proofs.context.track_whole.Tie as tie
-use Rattle.snapshot.proofs.context.track_whole.Reads as reads
-use Rattle.snapshot.proofs.context.track_whole.Lts as lts
-use Rattle.outcome.proofs.is_done.Reads as is-done-reads
-use Rattle.snapshot.proofs.context.track_page.Reads as track-page-reads
 
 abbrev Inv-loop : tie.InvT-loop
 Inv-loop slots flags₀ area records₀ memory first count id offset page₀ left₀ at₀ flags records page left at =
-    ?
+    Left slots area memory flags₀ records₀ first count id offset flags records page left at
 
 abbrev μ-loop : tie.MeasureT-loop
 μ-loop slots flags₀ area records₀ memory first count id offset page₀ left₀ at₀ flags records page left at =
-    ?
+    left
 
--- src/context.rt:350:5
 loop-holds : tie.Need-loop-holds Inv-loop μ-loop
-loop-holds c = ?
+loop-holds c = search (needs, left-here)
 
--- src/context.rt:351:13
 track-page-requires : tie.Need-track-page-requires Inv-loop μ-loop
-track-page-requires c κs = ?
+track-page-requires c κs = search needs
 
--- src/context.rt:352:12
 is-done-requires : tie.Need-is-done-requires Inv-loop μ-loop
-is-done-requires c κs = ?
+is-done-requires c κs = search needs
 
--- src/context.rt:353:13
 same-length : tie.Need-same-length Inv-loop μ-loop
-same-length c = ?
+same-length c = search needs
 
--- src/context.rt:353:13
 same-length-2 : tie.Need-same-length-2 Inv-loop μ-loop
-same-length-2 c = ?
+same-length-2 c = search needs
 
--- src/context.rt:353:13
 returns : tie.Need-returns Inv-loop μ-loop
-returns c = ?
+returns c = search (needs, left-stop)
 
--- src/context.rt:355:9
 add-page : tie.Need-add-page Inv-loop μ-loop
-add-page c = ?
+add-page c = search (needs, left-page)
 
--- src/context.rt:356:9
 sub-left : tie.Need-sub-left Inv-loop μ-loop
-sub-left c = ?
+sub-left c = search needs
 
--- src/context.rt:357:9
 add-at : tie.Need-add-at Inv-loop μ-loop
-add-at c = ?
+add-at c = search (needs, tracked-offset)
 
--- src/context.rt:350:5
 loop-less : tie.Need-loop-less Inv-loop μ-loop
-loop-less c = ?
+loop-less c = search needs
 
--- src/context.rt:350:5
 loop-again : tie.Need-loop-again Inv-loop μ-loop
-loop-again c = ?
+loop-again c = search (needs, left-turn)
 
--- src/context.rt:333:1
 same-length-3 : tie.Need-same-length-3 Inv-loop μ-loop
-same-length-3 c = ?
+same-length-3 c = search needs
 
--- src/context.rt:333:1
 same-length-4 : tie.Need-same-length-4 Inv-loop μ-loop
-same-length-4 c = ?
+same-length-4 c = search needs
 
--- src/context.rt:333:1
 returns-2 : tie.Need-returns-2 Inv-loop μ-loop
-returns-2 c = ?
+returns-2 c = search (needs, left-none)
 
 pub track-whole-spec : {M : Type 1} → statement M
 track-whole-spec =

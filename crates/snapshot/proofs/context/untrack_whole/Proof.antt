@@ -1,63 +1,52 @@
+-- Invariant: the pages from `page` on, with flags and records as they are, come to what all come to with those at entry. Measure: how many are left.
+use Prim.Native.Nat.{_+_, _-_}
+use borrow.Author.Needs.{needs}
+use Rattle.snapshot.proofs.UntrackPages.{Left, left-here, left-none, left-stop, left-page, left-turn}
 use Rattle.snapshot.proofs.context.untrack_whole.Statement.{statement}
 use Rattle.snapshot.proofs.context.untrack_whole.Tie as tie
-use Rattle.snapshot.proofs.context.untrack_whole.Reads as reads
-use Rattle.snapshot.proofs.context.untrack_whole.Lts as lts
-use Rattle.outcome.proofs.is_done.Reads as is-done-reads
-use Rattle.snapshot.proofs.context.untrack_page.Reads as untrack-page-reads
 
 abbrev Inv-loop : tie.InvT-loop
-Inv-loop slots flags₀ area records₀ memory first last page₀ flags records page = ?
+Inv-loop slots flags₀ area records₀ memory first last page₀ flags records page =
+    Left slots area memory flags₀ records₀ first last flags records page
 
 abbrev μ-loop : tie.MeasureT-loop
-μ-loop slots flags₀ area records₀ memory first last page₀ flags records page = ?
+μ-loop slots flags₀ area records₀ memory first last page₀ flags records page = last + 1 - page
 
--- src/context.rt:438:5
 loop-holds : tie.Need-loop-holds Inv-loop μ-loop
-loop-holds c = ?
+loop-holds c = search (needs, left-here)
 
--- src/context.rt:439:13
 untrack-page-requires : tie.Need-untrack-page-requires Inv-loop μ-loop
-untrack-page-requires c κs = ?
+untrack-page-requires c κs = search needs
 
--- src/context.rt:440:12
 is-done-requires : tie.Need-is-done-requires Inv-loop μ-loop
-is-done-requires c κs = ?
+is-done-requires c κs = search needs
 
--- src/context.rt:441:13
 same-length : tie.Need-same-length Inv-loop μ-loop
-same-length c = ?
+same-length c = search needs
 
--- src/context.rt:441:13
 same-length-2 : tie.Need-same-length-2 Inv-loop μ-loop
-same-length-2 c = ?
+same-length-2 c = search needs
 
--- src/context.rt:441:13
 returns : tie.Need-returns Inv-loop μ-loop
-returns c = ?
+returns c = search (needs, left-stop)
 
--- src/context.rt:443:9
 add-page : tie.Need-add-page Inv-loop μ-loop
-add-page c = ?
+add-page c = search (needs, left-page)
 
--- src/context.rt:438:5
 loop-less : tie.Need-loop-less Inv-loop μ-loop
-loop-less c = ?
+loop-less c = search needs
 
--- src/context.rt:438:5
 loop-again : tie.Need-loop-again Inv-loop μ-loop
-loop-again c = ?
+loop-again c = search (needs, left-turn)
 
--- src/context.rt:425:1
 same-length-3 : tie.Need-same-length-3 Inv-loop μ-loop
-same-length-3 c = ?
+same-length-3 c = search needs
 
--- src/context.rt:425:1
 same-length-4 : tie.Need-same-length-4 Inv-loop μ-loop
-same-length-4 c = ?
+same-length-4 c = search needs
 
--- src/context.rt:425:1
 returns-2 : tie.Need-returns-2 Inv-loop μ-loop
-returns-2 c = ?
+returns-2 c = search (needs, left-none)
 
 pub untrack-whole-spec : {M : Type 1} → statement M
 untrack-whole-spec =

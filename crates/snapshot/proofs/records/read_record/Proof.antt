@@ -1,56 +1,45 @@
+-- The mark decides.
+use mathlib.Core.Path.{refl}
 use borrow.Author.Needs.{needs}
+use Rattle.snapshot.proofs.PageRecords.{read-untracked, read-tracked}
 use Rattle.snapshot.proofs.records.read_record.Statement.{statement}
 use Rattle.snapshot.proofs.records.read_record.Tie as tie
-use Rattle.snapshot.proofs.records.read_record.Reads as reads
-use Rattle.snapshot.proofs.records.read_record.Lts as lts
 
--- src/records.rt:44:14
 mul-at : tie.Need-mul-at
 mul-at c = search needs
 
--- src/records.rt:45:24
 add-mark : tie.Need-add-mark
 add-mark c = search needs
 
--- src/records.rt:45:16
 mul-mark : tie.Need-mul-mark
 mul-mark c = search needs
 
--- src/records.rt:45:16
 shared-slice-read-mark : tie.Need-shared-slice-read-mark
 shared-slice-read-mark c = search needs
 
--- src/records.rt:47:9
 returns : tie.Need-returns
-returns c = ?
+returns c = (refl, search (needs, read-untracked))
 
--- src/records.rt:52:16
 cast-flag : tie.Need-cast-flag
 cast-flag c = search needs
 
--- src/records.rt:55:37
 mul-t6 : tie.Need-mul-t6
 mul-t6 c = search needs
 
--- src/records.rt:55:37
 shared-slice-read-t9 : tie.Need-shared-slice-read-t9
 shared-slice-read-t9 c = search needs
 
--- src/records.rt:55:58
 add-t7 : tie.Need-add-t7
 add-t7 c = search needs
 
--- src/records.rt:55:50
 mul-t13 : tie.Need-mul-t13
 mul-t13 c = search needs
 
--- src/records.rt:55:50
 shared-slice-read-t15 : tie.Need-shared-slice-read-t15
 shared-slice-read-t15 c = search needs
 
--- src/records.rt:40:1
 returns-2 : tie.Need-returns-2
-returns-2 c = ?
+returns-2 c = (refl, search (needs, read-tracked))
 
 pub read-record-spec : {M : Type 1} → statement M
 read-record-spec =

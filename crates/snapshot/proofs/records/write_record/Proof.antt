@@ -1,108 +1,85 @@
+-- The three words, in turn.
+use native.Mathlib.Omega.{arith}
+use lib.ListN.{length-set}
 use borrow.Author.Needs.{needs}
+use Rattle.snapshot.proofs.PageRecords.{wrote-untracked, wrote-tracked}
 use Rattle.snapshot.proofs.records.write_record.Statement.{statement}
 use Rattle.snapshot.proofs.records.write_record.Tie as tie
-use Rattle.snapshot.proofs.records.write_record.Reads as reads
-use Rattle.snapshot.proofs.records.write_record.Lts as lts
 
--- src/records.rt:64:14
 mul-at : tie.Need-mul-at
 mul-at c = search needs
 
--- src/records.rt:65:27
 enum-known-tracking : tie.Need-enum-known-tracking
 enum-known-tracking c = search needs
 
--- src/records.rt:66:9
 enum-told : tie.Need-enum-told
 enum-told c = search needs
 
--- src/records.rt:66:9
 mul-records : tie.Need-mul-records
 mul-records c = search needs
 
--- src/records.rt:66:9
 slice-write-records : tie.Need-slice-write-records
 slice-write-records c = search needs
 
--- src/records.rt:67:17
 add-records : tie.Need-add-records
 add-records c = search needs
 
--- src/records.rt:67:9
 mul-records-2 : tie.Need-mul-records-2
 mul-records-2 c = search needs
 
--- src/records.rt:67:9
 slice-write-records-2 : tie.Need-slice-write-records-2
-slice-write-records-2 c = ?
+slice-write-records-2 c = simp length-set (omega arith)
 
--- src/records.rt:68:17
 add-records-2 : tie.Need-add-records-2
 add-records-2 c = search needs
 
--- src/records.rt:68:9
 mul-records-3 : tie.Need-mul-records-3
 mul-records-3 c = search needs
 
--- src/records.rt:68:9
 slice-write-records-3 : tie.Need-slice-write-records-3
 slice-write-records-3 c = search needs
 
--- src/records.rt:69:9
 same-length : tie.Need-same-length
 same-length c = search needs
 
--- src/records.rt:69:9
 returns : tie.Need-returns
-returns c = ?
+returns c = search (needs, wrote-untracked)
 
--- src/records.rt:71:5
 mul-records-4 : tie.Need-mul-records-4
 mul-records-4 c = search needs
 
--- src/records.rt:71:5
 slice-write-records-4 : tie.Need-slice-write-records-4
 slice-write-records-4 c = search needs
 
--- src/records.rt:72:13
 add-records-3 : tie.Need-add-records-3
 add-records-3 c = search needs
 
--- src/records.rt:72:5
 mul-records-5 : tie.Need-mul-records-5
 mul-records-5 c = search needs
 
--- src/records.rt:72:5
 slice-write-records-5 : tie.Need-slice-write-records-5
-slice-write-records-5 c = ?
+slice-write-records-5 c = simp length-set (omega arith)
 
--- src/records.rt:73:33
 cast-records : tie.Need-cast-records
 cast-records c = search needs
 
--- src/records.rt:73:23
 add-records-4 : tie.Need-add-records-4
 add-records-4 c = search needs
 
--- src/records.rt:73:13
 add-records-5 : tie.Need-add-records-5
 add-records-5 c = search needs
 
--- src/records.rt:73:5
 mul-records-6 : tie.Need-mul-records-6
 mul-records-6 c = search needs
 
--- src/records.rt:73:5
 slice-write-records-6 : tie.Need-slice-write-records-6
 slice-write-records-6 c = search needs
 
--- src/records.rt:60:1
 same-length-2 : tie.Need-same-length-2
 same-length-2 c = search needs
 
--- src/records.rt:60:1
 returns-2 : tie.Need-returns-2
-returns-2 c = ?
+returns-2 c = search (needs, wrote-tracked)
 
 pub write-record-spec : {M : Type 1} → statement M
 write-record-spec =

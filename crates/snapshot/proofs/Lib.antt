@@ -1,12 +1,17 @@
 -- What holds of sources and tracking. Laws of each call, which the proofs of the functions cite:
 pub mod Lengths
+pub mod InTurn
 pub mod Lookup
 pub mod PageRecords
 pub mod TrackPages
 pub mod UntrackPages
 pub mod ContextSteps
+pub mod ContextStore
 pub mod MarkProgram
+-- no second outcome fits a promise:
+pub mod Once
 -- what holds across calls: well-formed storage, and what is seen:
 pub mod WellFormed
+pub mod Seen
 -- document 01's table:
 pub mod Table

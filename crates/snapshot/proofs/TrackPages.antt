@@ -8,9 +8,8 @@ use lib.ListN.{length, set}
 use lib.Dec.{eqb, ltb, leb}
 use borrow.Author.Tests.{lt-ltb, le-ltb, le-leb, lt-leb, ltb-true, leb-true, eqb-true}
 use Rattle.bits.specs.Rounding.{pageSize, roundedUp}
-use Rattle.program.specs.Program.{ret, run, perform, each}
+use Rattle.program.specs.Program.{ret, run, perform}
 use Rattle.program.specs.Layers.{own}
-use Rattle.program.proofs.Laws.{each-none, each-turn, each-stop}
 use Rattle.memory.specs.declared.Memory.{Memory}
 use Rattle.machine.specs.Fresh.{Tracked}
 use Rattle.snapshot.specs.declared.records.Tracking.the-variants as tracking
@@ -19,6 +18,7 @@ use Rattle.snapshot.specs.Operations.{Call, does, track!, trackPage, cle
 use Rattle.snapshot.specs.Tracking.{distance, trackFrom, trackWhole, track, trackPages}
 use Rattle.snapshot.specs.Answers.{trackedOf}
 use Rattle.snapshot.proofs.Lengths.{fit-yes}
+use Rattle.snapshot.proofs.InTurn.{Left, left-here, left-none, left-stop, left-turn}
 
 -- ---- one page
 
@@ -71,28 +71,25 @@ module _ (m t : Tracked) (p id offset n : ℕ) (d : Bool) (q : (n, t) ≡ run do
 
 -- ---- the loop
 
--- the pages that are left, with flags and records as they are, come to what all come to with those at entry
-pub record Left (slots area : List ℕ) (m : Memory) (flags₀ records₀ : List ℕ) (first count id offset : ℕ)
+-- the pages that are left come to what all come to, and `at` is the offset of the next
+pub record Tracking (slots area : List ℕ) (m : Memory) (flags₀ records₀ : List ℕ) (first count id offset : ℕ)
     (flags records : List ℕ) (page left at : ℕ) : Type 0 where
-  pub rest : run does (each (trackFrom first id offset) left page) (trackedOf slots flags area records m)
-      ≡ run does (trackWhole first count id offset) (trackedOf slots flags₀ area records₀ m)
+  pub pages : Left (trackFrom first id offset) slots area m flags₀ records₀ count first flags records left page
   pub place : at ≡ offset + (page - first) * pageSize
   pub onward : first ≤ page
-  pub flags-kept : length flags ≡ length flags₀
-  pub records-kept : length records ≡ length records₀
 
-pub left-here : (slots area : List ℕ) (m : Memory) (flags records : List ℕ) (first count id offset : ℕ)
-    → Left slots area m flags records first count id offset flags records first count offset
-unfolding trackWhole
-left-here slots area m flags records first count id offset =
-    record { rest = refl; place = omega arith; onward = omega arith; flags-kept = refl; records-kept = refl }
+pub tracking-first : (slots area : List ℕ) (m : Memory) (flags records : List ℕ) (first count id offset : ℕ)
+    → Tracking slots area m flags records first count id offset flags records first count offset
+tracking-first slots area m flags records first count id offset =
+    record { pages = left-here _ slots area m flags records count first; place = omega arith; onward = omega arith }
 
 module _ (slots area : List ℕ) (m : Memory) (flags₀ records₀ : List ℕ) (first count id offset : ℕ)
     (flags records : List ℕ) (page left at : ℕ)
-    (w : Left slots area m flags₀ records₀ first count id offset flags records page left at) where
-  pub left-none : left ≤ 0
+    (w : Tracking slots area m flags₀ records₀ first count id offset flags records page left at) where
+  pub tracked-all : left ≤ 0
       → (0, trackedOf slots flags area records m) ≡ run does (trackWhole first count id offset) (trackedOf slots flags₀ area records₀ m)
-  left-none h = each-none does (trackFrom first id offset) _ left page (omega arith) ∙ w .rest
+  unfolding trackWhole
+  tracked-all h = left-none (w .pages) (omega arith)
 
   module _ (h : 0 < left) (n : ℕ) (flags₂ records₂ : List ℕ) (d : Bool)
       (q : (n, trackedOf slots flags₂ area records₂ m) ≡ run does (perform (own (track! page id at))) (trackedOf slots flags area records m))
@@ -100,27 +97,25 @@ module _ (slots area : List ℕ) (m : Memory) (flags₀ records₀ : List ℕ) (
     placed : (n, trackedOf slots flags₂ area records₂ m) ≡ run does (trackFrom first id offset page) (trackedOf slots flags area records m)
     placed = q ∙ ap (λ (a : ℕ). run does (perform (own (track! page id a))) (trackedOf slots flags area records m)) (w .place)
 
-    pub left-stop : d ≡ false
+    pub tracking-stop : d ≡ false
         → (n, trackedOf slots flags₂ area records₂ m) ≡ run does (trackWhole first count id offset) (trackedOf slots flags₀ area records₀ m)
-    left-stop c =
-        each-stop does (trackFrom first id offset) _ left page (left - 1) (omega arith) n _ d placed i c ∙ w .rest
+    unfolding trackWhole
+    tracking-stop c = left-stop (w .pages) (left - 1) (omega arith) n flags₂ records₂ d placed i c
 
-    pub left-page : d ≡ true → length flags₀ < 2 ^ 64 → page + 1 < 2 ^ 64
-    left-page c l =
-        let k = w .flags-kept in
+    pub tracked-page : d ≡ true → length flags₀ < 2 ^ 64 → page + 1 < 2 ^ 64
+    tracked-page c l =
+        let k = w .pages .flags-kept in
         omega (arith, told (trackedOf slots flags area records m) (trackedOf slots flags₂ area records₂ m) page id at n d q i c .0)
 
-    pub left-turn : d ≡ true → length flags₂ ≡ length flags → length records₂ ≡ length records
-        → Left slots area m flags₀ records₀ first count id offset flags₂ records₂ (page + 1) (left - 1) (at + pageSize)
-    left-turn c kf kr =
+    pub tracking-next : d ≡ true → length flags₂ ≡ length flags → length records₂ ≡ length records
+        → Tracking slots area m flags₀ records₀ first count id offset flags₂ records₂ (page + 1) (left - 1) (at + pageSize)
+    tracking-next c f r =
         let o = w .onward in
         let z = w .place in
         record {
-          rest = each-turn does (trackFrom first id offset) _ left page (left - 1) (omega arith) n _ d placed i c ∙ w .rest;
+          pages = left-turn (w .pages) (left - 1) (omega arith) n flags₂ records₂ d placed i c f r;
           place = omega arith;
           onward = omega arith;
-          flags-kept = kf ∙ w .flags-kept;
-          records-kept = kr ∙ w .records-kept;
         }
 
 -- ---- the call

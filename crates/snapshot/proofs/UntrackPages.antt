@@ -8,9 +8,8 @@ use lib.ListN.{length, getD, set}
 use lib.Bits.{bitOr}
 use lib.Dec.{eqb, ltb}
 use borrow.Author.Tests.{lt-ltb, le-ltb, ltb-true, eq-eqb, ne-eqb, eqb-true}
-use Rattle.program.specs.Program.{ret, run, perform, each, onwards}
+use Rattle.program.specs.Program.{ret, run, perform, onwards}
 use Rattle.program.specs.Layers.{own}
-use Rattle.program.proofs.Laws.{each-none, each-turn, each-stop}
 use Rattle.memory.specs.declared.Memory.{Memory}
 use Rattle.memory.specs.Pages.{PageIndices, dirty, pageIndices}
 use Rattle.machine.specs.Fresh.{Tracked}
@@ -20,6 +19,7 @@ use Rattle.snapshot.specs.Operations.{Call, does, drop!, dropPage, fitsT
 use Rattle.snapshot.specs.Tracking.{dropWhole, untrack, untrackPages}
 use Rattle.snapshot.specs.Answers.{trackedOf}
 use Rattle.snapshot.proofs.Lengths.{fit-yes}
+use Rattle.snapshot.proofs.InTurn.{Left, left-none, left-stop, left-turn}
 
 -- ---- one page
 
@@ -37,10 +37,10 @@ module _ (slots flags area records : List ℕ) (m : Memory) (p : ℕ) where
   drop-there new h e = rw e (simp (lt-ltb p (length flags) h))
 
 -- a page that was untracked is on the machine
-dropped-page : (m t : Tracked) (p n : ℕ) (d : Bool) → (n, t) ≡ run does (perform (own (drop! p))) m → d ≡ eqb n 0 → d ≡ true
+told : (m t : Tracked) (p n : ℕ) (d : Bool) → (n, t) ≡ run does (perform (own (drop! p))) m → d ≡ eqb n 0 → d ≡ true
     → p < length (m .0 .flags)
 unfolding run dropPage
-dropped-page m t p n d q i c =
+told m t p n d q i c =
     go (ltb p (length (m .0 .flags))) _ refl (sym (eqb-true n 0 (sym i ∙ c)) ∙ ap (λ (x : ℕ × Tracked). x .0) q)
   where
     go : (b : Bool) (x : Tracked) → ltb p (length (m .0 .flags)) ≡ b → _≡_ {A = ℕ} 0 ((cond {A = ℕ × Tracked} b (0, x) (2, m)) .0)
@@ -50,49 +50,34 @@ dropped-page m t p n d q i c =
 
 -- ---- the loop
 
-abbrev pub dropOne : ℕ → Call ℕ
-dropOne p = perform (own (drop! p))
-
--- the pages from `page` to last, with flags and records as they are, come to what all come to with those at entry
-pub record Left (slots area : List ℕ) (m : Memory) (flags₀ records₀ : List ℕ) (first last : ℕ) (flags records : List ℕ)
-    (page : ℕ) : Type 0 where
-  pub rest : run does (each dropOne (last + 1 - page) page) (trackedOf slots flags area records m)
-      ≡ run does (dropWhole first last) (trackedOf slots flags₀ area records₀ m)
-  pub flags-kept : length flags ≡ length flags₀
-  pub records-kept : length records ≡ length records₀
-
-pub left-here : (slots area : List ℕ) (m : Memory) (flags records : List ℕ) (first last : ℕ)
-    → Left slots area m flags records first last flags records first
-unfolding dropWhole
-left-here slots area m flags records first last = record { rest = refl; flags-kept = refl; records-kept = refl }
+-- the pages from `page` to last
+abbrev pub Dropping : List ℕ → List ℕ → Memory → List ℕ → List ℕ → ℕ → ℕ → List ℕ → List ℕ → ℕ → Type 0
+Dropping slots area m flags₀ records₀ first last flags records page =
+    Left (λ p. perform (own (drop! p))) slots area m flags₀ records₀ (last + 1 - first) first flags records (last + 1 - page) page
 
 module _ (slots area : List ℕ) (m : Memory) (flags₀ records₀ : List ℕ) (first last : ℕ) (flags records : List ℕ) (page : ℕ)
-    (w : Left slots area m flags₀ records₀ first last flags records page) where
-  pub left-none : last < page
+    (w : Dropping slots area m flags₀ records₀ first last flags records page) where
+  pub dropped-all : last < page
       → (0, trackedOf slots flags area records m) ≡ run does (dropWhole first last) (trackedOf slots flags₀ area records₀ m)
-  left-none h = each-none does dropOne _ (last + 1 - page) page (omega arith) ∙ w .rest
+  unfolding dropWhole
+  dropped-all h = left-none w (omega arith)
 
   module _ (h : page ≤ last) (n : ℕ) (flags₂ records₂ : List ℕ) (d : Bool)
       (q : (n, trackedOf slots flags₂ area records₂ m) ≡ run does (perform (own (drop! page))) (trackedOf slots flags area records m))
       (i : d ≡ eqb n 0) where
-    pub left-stop : d ≡ false
+    pub dropping-stop : d ≡ false
         → (n, trackedOf slots flags₂ area records₂ m) ≡ run does (dropWhole first last) (trackedOf slots flags₀ area records₀ m)
-    left-stop c =
-        each-stop does dropOne _ (last + 1 - page) page (last + 1 - (page + 1)) (omega arith) n _ d q i c ∙ w .rest
+    unfolding dropWhole
+    dropping-stop c = left-stop w (last + 1 - (page + 1)) (omega arith) n flags₂ records₂ d q i c
 
-    pub left-page : d ≡ true → length flags₀ < 2 ^ 64 → page + 1 < 2 ^ 64
-    left-page c l =
+    pub dropped-page : d ≡ true → length flags₀ < 2 ^ 64 → page + 1 < 2 ^ 64
+    dropped-page c l =
         let k = w .flags-kept in
-        omega (arith, dropped-page (trackedOf slots flags area records m) (trackedOf slots flags₂ area records₂ m) page n d q i c)
+        omega (arith, told (trackedOf slots flags area records m) (trackedOf slots flags₂ area records₂ m) page n d q i c)
 
-    pub left-turn : d ≡ true → length flags₂ ≡ length flags → length records₂ ≡ length records
-        → Left slots area m flags₀ records₀ first last flags₂ records₂ (page + 1)
-    left-turn c kf kr =
-        record {
-          rest = each-turn does dropOne _ (last + 1 - page) page (last + 1 - (page + 1)) (omega arith) n _ d q i c ∙ w .rest;
-          flags-kept = kf ∙ w .flags-kept;
-          records-kept = kr ∙ w .records-kept;
-        }
+    pub dropping-next : d ≡ true → length flags₂ ≡ length flags → length records₂ ≡ length records
+        → Dropping slots area m flags₀ records₀ first last flags₂ records₂ (page + 1)
+    dropping-next c f r = left-turn w (last + 1 - (page + 1)) (omega arith) n flags₂ records₂ d q i c f r
 
 -- ---- the call
 

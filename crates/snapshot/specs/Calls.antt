@@ -3,7 +3,7 @@
 use mathlib.Core.Bool.{cond}
 use mathlib.Core.List.{List, [], _∷_}
 use mathlib.Core.Path.{_≡_}
-use Prim.Native.Nat.{ℕ}
+use Prim.Native.Nat.{ℕ, _<_}
 use lib.ListN.{length}
 use lib.Bits.{bitAnd}
 use Rattle.program.specs.Program.{ret, perform, run}
@@ -83,10 +83,15 @@ abbrev pub answer : (g : Given) → LentMachine → AnswerTo g × LentMachine
 answer (named c) m = run machineDoes (program c) m
 answer (clear-flag p f) m = ((clearFlag p f (m .0)) .0, ((clearFlag p f (m .0)) .1, m .1))
 
--- a call that does not clear dirty directly
+-- a call that does not clear dirty directly: of the bits of a flag, a byte, dirty is not one that it clears
 abbrev pub Careful : Given → Type 0
 Careful (named c) = Unit {0}
-Careful (clear-flag p f) = bitAnd f dirty ≡ 0
+Careful (clear-flag p f) = (f < 256) × (bitAnd f dirty ≡ 0)
+
+-- calls of which none does
+abbrev pub AllCareful : List Given → Type 0
+AllCareful [] = Unit {0}
+AllCareful (g ∷ gs) = Careful g × AllCareful gs
 
 -- a call with its answer
 pub data Told : Type 0 where

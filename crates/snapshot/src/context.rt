@@ -23,7 +23,8 @@ use outcome::Outcome;
 // The numbers of a loading action.
 pub const ACTION_WORDS: usize = 6;
 
-// The greatest address from which a page's end can be reached, and the greatest offset from which a page's can't.
+// The last page's address, 2^64-4,096: from an address past it no page boundary is reached, and a page of an item that starts
+// there or later ends past 2^64-1.
 const LAST_PAGE: u64 = 18446744073709547520;
 
 // What a context store answers: the bytes stored, and the full length that remained from the offset on.
@@ -199,7 +200,7 @@ pub fn store_bytes(
     let next = answer.memory;
     if outcome::is_done(outcome) {
         return Stored {
-            outcome: Outcome::Done,
+            outcome,
             stored: count as u64,
             full,
             memory: next,

@@ -10,8 +10,8 @@ returns c = search (needs, track-past)
 returns-2 : tie.Need-returns-2
 returns-2 c = search (needs, track-far)
 
-slice-read-flag : tie.Need-slice-read-flag
-slice-read-flag c = search needs
+slice-read-before : tie.Need-slice-read-before
+slice-read-before c = search needs
 
 slice-write-flags : tie.Need-slice-write-flags
 slice-write-flags c = search needs
@@ -34,7 +34,7 @@ track-page-spec =
     (tie.spec
     returns
     returns-2
-    slice-read-flag
+    slice-read-before
     slice-write-flags
     write-record-requires
     same-length

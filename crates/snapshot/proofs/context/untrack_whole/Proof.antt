@@ -1,13 +1,14 @@
 -- Invariant: the pages from `page` on, with flags and records as they are, come to what all come to with those at entry. Measure: how many are left.
 use Prim.Native.Nat.{_+_, _-_}
 use borrow.Author.Needs.{needs}
-use Rattle.snapshot.proofs.UntrackPages.{Left, left-here, left-none, left-stop, left-page, left-turn}
+use Rattle.snapshot.proofs.InTurn.{left-here}
+use Rattle.snapshot.proofs.UntrackPages.{Dropping, dropping-stop, dropping-next, dropped-all, dropped-page}
 use Rattle.snapshot.proofs.context.untrack_whole.Statement.{statement}
 use Rattle.snapshot.proofs.context.untrack_whole.Tie as tie
 
 abbrev Inv-loop : tie.InvT-loop
 Inv-loop slots flags₀ area records₀ memory first last page₀ flags records page =
-    Left slots area memory flags₀ records₀ first last flags records page
+    Dropping slots area memory flags₀ records₀ first last flags records page
 
 abbrev μ-loop : tie.MeasureT-loop
 μ-loop slots flags₀ area records₀ memory first last page₀ flags records page = last + 1 - page
@@ -28,16 +29,16 @@ same-length-2 : tie.Need-same-length-2 Inv-loop μ-loop
 same-length-2 c = search needs
 
 returns : tie.Need-returns Inv-loop μ-loop
-returns c = search (needs, left-stop)
+returns c = search (needs, dropping-stop)
 
 add-page : tie.Need-add-page Inv-loop μ-loop
-add-page c = search (needs, left-page)
+add-page c = search (needs, dropped-page)
 
 loop-less : tie.Need-loop-less Inv-loop μ-loop
 loop-less c = search needs
 
 loop-again : tie.Need-loop-again Inv-loop μ-loop
-loop-again c = search (needs, left-turn)
+loop-again c = search (needs, dropping-next)
 
 same-length-3 : tie.Need-same-length-3 Inv-loop μ-loop
 same-length-3 c = search needs
@@ -46,7 +47,7 @@ same-length-4 : tie.Need-same-length-4 Inv-loop μ-loop
 same-length-4 c = search needs
 
 returns-2 : tie.Need-returns-2 Inv-loop μ-loop
-returns-2 c = search (needs, left-none)
+returns-2 c = search (needs, dropped-all)
 
 pub untrack-whole-spec : {M : Type 1} → statement M
 untrack-whole-spec =

@@ -2,20 +2,18 @@
 use mathlib.Core.Path.{_≡_, refl, sym, ap, _∙_}
 use mathlib.Core.Bool.{Bool, true, false}
 use mathlib.Core.List.{List}
-use Prim.Native.Nat.{ℕ, _+_, _*_, _/_, _%_, _≤_, _<_}
+use Prim.Native.Nat.{ℕ, _*_, _/_, _%_, _≤_, _<_}
 use native.Mathlib.Omega.{arith}
 use lib.ListN.{length, getD, set}
-use lib.Dec.{eqb, ltb}
+use lib.Dec.{eqb}
 use borrow.Author.Tests.{lt-ltb, le-ltb, eq-eqb, ne-eqb, eqb-true, eqb-false}
 use Rattle.bits.specs.Rounding.{pageSize}
-use Rattle.outcome.specs.declared.Outcome.{Outcome}
-use Rattle.outcome.specs.Numbers.{numberOf}
 use Rattle.words.specs.Bytes.{filled}
 use Rattle.memory.specs.declared.Memory.{Memory}
 use Rattle.memory.specs.Storage.{State, stateOf, valued, noValue, noMemory}
 use Rattle.memory.specs.Storage as memory
 use Rattle.machine.specs.declared.Machine.{Machine}
-use Rattle.machine.specs.Numbers.{generalRegisters, Numbers, numbersOf, machineOf, changed, freshNumbers, noNumbers, register, setRegister}
+use Rattle.machine.specs.Numbers.{generalRegisters, numbersOf, machineOf, changed, freshNumbers, noNumbers, register, setRegister}
 use Rattle.machine.specs.Fresh.{LentMachine, recordWords, recordsFit, freshOver, fresh}
 
 -- ---- registers

@@ -12,7 +12,7 @@ use Rattle.memory.specs.Storage.{Valued}
 use Rattle.memory.specs.Answers.{valueOf}
 use Rattle.machine.specs.declared.Machine.{Machine}
 use Rattle.machine.specs.declared.Answer.{Answer}
-use Rattle.machine.specs.Numbers.{Numbers, numbersOf, machineOf}
+use Rattle.machine.specs.Numbers.{machineOf}
 use Rattle.machine.specs.Fresh.{LentMachine, answered}
 
 -- fresh: an answer with the machine, and four lists

@@ -6,13 +6,12 @@
 //
 // What each method answers and leaves is a definition of specs/Numbers.antt; what `fresh` does is one of specs/Fresh.antt.
 ghost use mathlib.Core.Path.{_≡_};
-ghost use Prim.Native.Nat.{_*_, _/_};
+ghost use Prim.Native.Nat.{_/_};
 ghost use lib.ListN.{length};
-ghost use Rattle.bits.specs.Rounding.{pageSize};
 ghost use Rattle.outcome.specs.Numbers.{numberOf};
 ghost use Rattle.words.specs.Bytes.{filled};
 ghost use Rattle.memory.specs.Answers.{valueOf};
-ghost use Rattle.machine.specs.Numbers.{numbersOf, machineOf, freshNumbers, noNumbers, register, setRegister, updatePc, commitPc, setCycles, setMaxCycles, changed};
+ghost use Rattle.machine.specs.Numbers.{numbersOf, machineOf, freshNumbers, register, setRegister, updatePc, commitPc, setCycles, setMaxCycles, changed};
 ghost use Rattle.machine.specs.Fresh.{recordsFit, fresh, answered};
 use memory::Memory;
 use memory::PAGE;

@@ -1,9 +1,8 @@
 -- What every operation keeps, every program keeps; and which results a program can end with.
 use mathlib.Core.Bool.{Bool, true, false, cond}
-use mathlib.Core.Path.{_≡_, refl}
 use Prim.Native.Nat.{ℕ, zero, suc, _+_}
 use lib.Dec.{eqb}
-use Rattle.program.specs.Program.{Prog, ret, ask, run, bind, onwards, after, andThen, each}
+use Rattle.program.specs.Program.{Prog, ret, ask, run, bind, onwards, after, each}
 
 module _ {Op : Type 0} {Reply : Op → Type 0} where
   -- every result of the program is of the kind P, as long as every reply is of the kind Can

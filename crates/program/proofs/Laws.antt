@@ -1,7 +1,7 @@
 -- Programs in turn: one law for each way in which a step of a call can go on or end.
 use mathlib.Core.Path.{_≡_, refl, sym, ap, _∙_}
 use mathlib.Core.Bool.{Bool, true, false, cond}
-use Prim.Native.Nat.{ℕ, zero, suc, _+_}
+use Prim.Native.Nat.{ℕ, suc, _+_}
 use lib.Dec.{eqb}
 use Rattle.program.specs.Program.{Prog, ret, ask, run, bind, onwards, after, andThen, each}
 

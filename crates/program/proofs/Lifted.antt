@@ -1,7 +1,7 @@
 -- A program of the layer below does in the layer above what it does below, and leaves the upper state alone.
 use mathlib.Core.Path.{_≡_, refl, sym, ap, _∙_}
 use Rattle.program.specs.Program.{Prog, ret, ask, run}
-use Rattle.program.specs.Layers.{Plus, low, own, ReplyPlus, over, lift}
+use Rattle.program.specs.Layers.{over, lift}
 
 module _ {Low Own : Type 0} {R : Low → Type 0} {Q : Own → Type 0} {S T : Type 0}
     (below : (o : Low) → S → R o × S) (owns : (o : Own) → S × T → Q o × (S × T)) where

@@ -1,5 +1,5 @@
 -- Mark program: an action in the cases in which it ends, and the actions in turn.
-use mathlib.Core.Path.{_≡_, refl, sym, ap, _∙_}
+use mathlib.Core.Path.{_≡_, refl, sym, ap, _∙_, subst}
 use mathlib.Core.Bool.{Bool, true, false, cond}
 use mathlib.Core.List.{List}
 use Prim.Native.Nat.{ℕ, suc, _+_, _-_, _/_, _^_, _≤_, _<_, min}
@@ -7,14 +7,14 @@ use native.Mathlib.Omega.{arith}
 use lib.ListN.{length}
 use lib.Dec.{eqb, ltb}
 use borrow.Author.Tests.{lt-ltb, le-ltb}
-use Rattle.program.specs.Program.{ret, run, each}
-use Rattle.program.proofs.Laws.{each-none, each-turn, each-stop}
+use Rattle.program.specs.Program.{ret, run}
 use Rattle.memory.specs.declared.Memory.{Memory}
 use Rattle.machine.specs.Fresh.{Tracked}
 use Rattle.snapshot.specs.declared.context.LoadingAction.{LoadingAction}
 use Rattle.snapshot.specs.Operations.{Call, does, top}
 use Rattle.snapshot.specs.Tracking.{trackPages, actionWords, actionAt, markAction, markActions}
 use Rattle.snapshot.specs.Answers.{trackedOf}
+use Rattle.snapshot.proofs.InTurn.{Left, left-here, left-none, left-stop, left-turn}
 
 -- ---- one action
 
@@ -78,31 +78,34 @@ markAt actions id offset i = markAction id offset (actionAt actions i)
 -- the actions from i on, with flags and records as they are, come to what all come to with those at entry
 pub record Marking (slots area actions : List ℕ) (m : Memory) (id offset count : ℕ) (flags₀ records₀ : List ℕ)
     (flags records : List ℕ) (i : ℕ) : Type 0 where
-  pub same : run does (each (markAt actions id offset) (count - i) i) (trackedOf slots flags area records m)
-      ≡ run does (markActions actions id offset) (trackedOf slots flags₀ area records₀ m)
+  pub left : Left (markAt actions id offset) slots area m flags₀ records₀ (length actions / actionWords) 0 flags records (count - i) i
   pub counted : count ≡ length actions / actionWords
   pub flags-kept : length flags ≡ length flags₀
   pub records-kept : length records ≡ length records₀
 
+marking-of : (slots area actions : List ℕ) (m : Memory) (id offset count : ℕ) (flags₀ records₀ flags records : List ℕ) (i : ℕ)
+    → count ≡ length actions / actionWords
+    → Left (markAt actions id offset) slots area m flags₀ records₀ (length actions / actionWords) 0 flags records (count - i) i
+    → Marking slots area actions m id offset count flags₀ records₀ flags records i
+marking-of slots area actions m id offset count flags₀ records₀ flags records i c w =
+    record { left = w; counted = c; flags-kept = w .flags-kept; records-kept = w .records-kept }
+
 pub marking-first : (slots area actions : List ℕ) (m : Memory) (id offset : ℕ) (flags records : List ℕ)
     → Marking slots area actions m id offset (length actions / actionWords) flags records flags records 0
-unfolding markActions
 marking-first slots area actions m id offset flags records =
-    let e : length actions / actionWords - 0 ≡ length actions / actionWords = omega arith in
-    record {
-      same = ap (λ (n : ℕ). run does (each (markAt actions id offset) n 0) (trackedOf slots flags area records m)) e;
-      counted = refl;
-      flags-kept = refl;
-      records-kept = refl;
-    }
+    let n : ℕ = length actions / actionWords in
+    let e : n ≡ n - 0 = omega arith in
+    marking-of slots area actions m id offset n flags records flags records 0 refl
+    (subst (λ (k : ℕ). Left (markAt actions id offset) slots area m flags records n 0 flags records k 0) e
+    (left-here (markAt actions id offset) slots area m flags records n 0))
 
 module _ (slots area actions : List ℕ) (m : Memory) (id offset count : ℕ) (flags₀ records₀ flags records : List ℕ) (i : ℕ)
     (g : Marking slots area actions m id offset count flags₀ records₀ flags records i) where
   pub marked-all : count ≤ i
       → (0, trackedOf slots flags area records m)
       ≡ run does (markActions actions id offset) (trackedOf slots flags₀ area records₀ m)
-  marked-all h =
-      each-none does (markAt actions id offset) (trackedOf slots flags area records m) (count - i) i (omega arith) ∙ g .same
+  unfolding markActions
+  marked-all h = left-none (g .left) (omega arith)
 
   module _ (l : i < count) (x : LoadingAction) (k : ℕ) (flags₁ records₁ : List ℕ) (d : Bool)
       (e : (k, trackedOf slots flags₁ area records₁ m) ≡ run does (markAction id offset x) (trackedOf slots flags area records m))
@@ -117,14 +120,11 @@ module _ (slots area actions : List ℕ) (m : Memory) (id offset count : ℕ) (f
     pub marking-stop : d ≡ false
         → (k, trackedOf slots flags₁ area records₁ m)
         ≡ run does (markActions actions id offset) (trackedOf slots flags₀ area records₀ m)
-    marking-stop t = each-stop does (markAt actions id offset) _ (count - i) i (count - (i + 1)) less k _ d one b t ∙ g .same
+    unfolding markActions
+    marking-stop t = left-stop (g .left) (count - (i + 1)) less k flags₁ records₁ d one b t
 
     pub marking-next : d ≡ true → length flags₁ ≡ length flags → length records₁ ≡ length records
         → Marking slots area actions m id offset count flags₀ records₀ flags₁ records₁ (i + 1)
     marking-next t f r =
-        record {
-          same = each-turn does (markAt actions id offset) _ (count - i) i (count - (i + 1)) less k _ d one b t ∙ g .same;
-          counted = g .counted;
-          flags-kept = f ∙ g .flags-kept;
-          records-kept = r ∙ g .records-kept;
-        }
+        marking-of slots area actions m id offset count flags₀ records₀ flags₁ records₁ (i + 1) (g .counted)
+        (left-turn (g .left) (count - (i + 1)) less k flags₁ records₁ d one b t f r)

@@ -13,23 +13,21 @@ use lib.ListN.{length, getD}
 use lib.Bits.{bitAnd}
 use lib.Dec.{eqb, leb, ltb}
 use borrow.Author.Tests.{eqb-true, le-leb, eq-eqb, ne-eqb, le-ltb}
-use Rattle.bits.specs.Rounding.{pageSize}
 use Rattle.words.specs.Bytes.{filled}
 use Rattle.words.proofs.Filled.{length-filled}
 use Rattle.program.specs.Program.{ret, run, bind, after, onwards, each}
 use Rattle.memory.specs.Pages.{dirty}
-use Rattle.memory.specs.Storage.{State, Fitting, stateOf, absent, fitsLengths, freshMemory, noMemory}
+use Rattle.memory.specs.Storage.{Fitting, stateOf, absent, fitsLengths, freshMemory}
 use Rattle.memory.specs.Storage as storage
 use Rattle.memory.proofs.Lengths.{fits-are}
-use Rattle.memory.proofs.WellFormed.{fresh-told, fresh-done}
 use Rattle.memory.proofs.Table as memory
-use Rattle.machine.specs.Numbers.{freshNumbers, noNumbers}
 use Rattle.machine.specs.Fresh.{Tracked, LentMachine, recordWords, fresh, freshOver, recordsFit}
 use Rattle.snapshot.specs.declared.records.Tracking.the-variants as tracking
 use Rattle.snapshot.specs.Sources.{entryWords, found, missing, findData, among, dataIn, dataOf}
 use Rattle.snapshot.specs.Records.{recordOf}
 use Rattle.snapshot.specs.Operations.{top, does, fitsAll, fitting, masked, entryIn, trackPage}
 use Rattle.snapshot.specs.Tracking.{track, trackWhole, trackPages}
+use Rattle.snapshot.proofs.WellFormed.{fresh-told, fresh-done}
 
 -- ---- "the two 10-byte item loads"
 
@@ -254,41 +252,6 @@ blank-tracks slots area id offset fit =
 
 -- ---- a fresh machine
 
-module _ (slots flags area records : List ℕ) (size version maximum : ℕ) where
-  -- it answers 0 only where the lengths are right
-  fresh-records : (fresh slots flags area records size version maximum) .0 ≡ 0 → recordsFit (length records) (size / pageSize) ≡ true
-  unfolding fresh
-  fresh-records = go (recordsFit (length records) (size / pageSize))
-    where
-      go : (b : Bool)
-          → _≡_ {A = ℕ} ((cond {A = ℕ × LentMachine} b (freshOver (storage.fresh slots flags area size) records version maximum) (9, ((stateOf slots flags area noMemory, records), noNumbers))) .0) 0
-          → b ≡ true
-      go true e = refl
-      go false e = absurd (omega arith)
-
-  over-told : (r : ℕ × State) → (freshOver r records version maximum) .0 ≡ 0 → r .0 ≡ 0
-  unfolding freshOver
-  over-told r = go (eqb (r .0) 0) refl
-    where
-      go : (b : Bool) → eqb (r .0) 0 ≡ b
-          → _≡_ {A = ℕ} ((cond {A = ℕ × LentMachine} b (0, ((r .1, filled (length records) 0), freshNumbers version maximum)) (r .0, ((r .1, records), noNumbers))) .0) 0
-          → r .0 ≡ 0
-      go true t e = eqb-true (r .0) 0 t
-      go false t e = e
-
-  module _ (e : (fresh slots flags area records size version maximum) .0 ≡ 0) where
-    fresh-over : fresh slots flags area records size version maximum ≡ freshOver (storage.fresh slots flags area size) records version maximum
-    unfolding fresh
-    fresh-over = rw (fresh-records e)
-
-    fresh-lengths : fitsLengths (length slots) (length flags) (length area) (freshMemory size) ≡ true
-    fresh-lengths = fresh-told slots flags area size (over-told _ (rw fresh-over at e))
-
-    fresh-made : (fresh slots flags area records size version maximum) .1 .0
-        ≡ (stateOf (filled (length slots) absent) (filled (length flags) 0) area (freshMemory size), filled (length records) 0)
-    unfolding freshOver
-    fresh-made = rw (fresh-over, fresh-done slots flags area size fresh-lengths)
-
 -- of 4 pages
 module _ (slots flags area records : List ℕ) (version maximum : ℕ)
     (e : (fresh slots flags area records 16384 version maximum) .0 ≡ 0) where
@@ -296,23 +259,23 @@ module _ (slots flags area records : List ℕ) (version maximum : ℕ)
   made = (fresh slots flags area records 16384 version maximum) .1 .0
 
   lengths-of : Fitting (length slots) (length flags) (length area) (freshMemory 16384)
-  lengths-of = fits-are _ _ _ _ (fresh-lengths slots flags area records 16384 version maximum e)
+  lengths-of = fits-are _ _ _ _ (fresh-told slots flags area records 16384 version maximum e .1)
 
   words-of : length records ≡ 12
   unfolding recordsFit
-  words-of = eqb-true (length records) 12 (fresh-records slots flags area records 16384 version maximum e)
+  words-of = eqb-true (length records) 12 (fresh-told slots flags area records 16384 version maximum e .0)
 
   blank-made : made ≡ blank (filled (length slots) absent) area
   unfolding filled
   blank-made =
       let n : length flags ≡ 4 = lengths-of .flags-are in
-      fresh-made slots flags area records 16384 version maximum e ∙ rw (n, words-of)
+      ap (λ (r : ℕ × LentMachine). r .1 .0) (fresh-done slots flags area records 16384 version maximum e) ∙ rw (n, words-of)
 
   blank-fits : fitsAll (length (filled (length slots) absent)) 4 (length area) 12 (freshMemory 16384) ≡ true
   unfolding fitsAll recordsFit
   blank-fits =
       let n : length flags ≡ 4 = lengths-of .flags-are in
-      rw (length-filled, ← n, fresh-lengths slots flags area records 16384 version maximum e)
+      rw (length-filled, ← n, fresh-told slots flags area records 16384 version maximum e .1)
 
   pub tracked-pages : (id offset : ℕ) → Tracks made id offset
   tracked-pages id offset = subst⁻¹ (λ (m : Tracked). Tracks m id offset) blank-made (blank-tracks (filled (length slots) absent) area id offset blank-fits)

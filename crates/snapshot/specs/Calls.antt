@@ -1,6 +1,5 @@
 -- The public calls on a machine as data: what each is given, what it answers, and its meaning, by the definitions that its
 -- promise cites.
-use mathlib.Core.Bool.{cond}
 use mathlib.Core.List.{List, [], _∷_}
 use mathlib.Core.Path.{_≡_}
 use Prim.Native.Nat.{ℕ, _<_}
@@ -9,7 +8,6 @@ use lib.Bits.{bitAnd}
 use Rattle.program.specs.Program.{ret, perform, run}
 use Rattle.program.specs.Layers.{own, lift}
 use Rattle.memory.specs.Pages.{dirty}
-use Rattle.memory.specs.Storage.{Valued}
 use Rattle.memory.specs.Sparse as sparse
 use Rattle.memory.specs.Calls as memory
 use Rattle.machine.specs.Fresh.{Tracked, LentMachine}

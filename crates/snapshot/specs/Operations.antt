@@ -7,9 +7,9 @@ use lib.Dec.{eqb, ltb, leb}
 use lib.Bits.{bitAnd, bitOr}
 use Rattle.bits.specs.Rounding.{pageSize}
 use Rattle.program.specs.Program.{Prog, ask, ret}
-use Rattle.program.specs.Layers.{Plus, low, own, ReplyPlus, over, beside, lift}
+use Rattle.program.specs.Layers.{Plus, own, ReplyPlus, over, beside, lift}
 use Rattle.memory.specs.Pages.{dirty, cleared}
-use Rattle.memory.specs.Storage.{State, stateOf, fits, fitsLengths}
+use Rattle.memory.specs.Storage.{stateOf, fitsLengths}
 use Rattle.memory.specs.Operations as memory
 use Rattle.memory.specs.declared.Memory.{Memory}
 use Rattle.machine.specs.Fresh.{Tracked, LentMachine, recordsFit}

@@ -10,8 +10,9 @@ pub mod ContextStore
 pub mod MarkProgram
 -- no second outcome fits a promise:
 pub mod Once
--- what holds across calls: well-formed storage, and what is seen:
+-- what holds across calls: well-formed storage, what is seen, and which numbers are answered:
 pub mod WellFormed
 pub mod Seen
+pub mod Numbers
 -- document 01's table:
 pub mod Table

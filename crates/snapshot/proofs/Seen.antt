@@ -23,20 +23,20 @@ use Rattle.memory.specs.Operations.{or! }
 use Rattle.memory.specs.Sparse as sparse
 use Rattle.memory.specs.View as memory
 use Rattle.memory.proofs.StoreCases.{cases}
-use Rattle.memory.proofs.Replies.{lengths-reply}
+use Rattle.memory.proofs.Replies as memory-replies
 use Rattle.memory.proofs.Dirty.{dirty-set, dirty-cleared}
 use Rattle.memory.proofs.WellFormed as memory-formed
 use Rattle.memory.proofs.Seen as memory-laws
 use Rattle.machine.specs.Numbers.{freshNumbers}
-use Rattle.machine.specs.Fresh.{Tracked, LentMachine, recordWords, recordsFit, fresh}
+use Rattle.machine.specs.Fresh.{Tracked, LentMachine, recordWords, fresh}
 use Rattle.machine.specs.Operations as machine
 use Rattle.snapshot.specs.declared.records.Tracking.{Tracking}
 use Rattle.snapshot.specs.declared.records.Tracking.the-variants as tracking
 use Rattle.snapshot.specs.Records.{trackedMark, recordOf, recordAt, withWords, withRecord}
-use Rattle.snapshot.specs.Operations.{lengths?, entry?, track!, drop!, AnyOp, MachineOp, masked, entryIn, marked, clean, fitsAll, fitsTracked, trackPage, dropPage, does, machineDoes, Call, MachineCall, top}
+use Rattle.snapshot.specs.Operations.{lengths?, entry?, track!, drop!, AnyOp, MachineOp, masked, entryIn, marked, clean, trackPage, dropPage, does, machineDoes, Call, MachineCall, top}
 use Rattle.snapshot.specs.View.{Whole, View, view, remasked, entry-at, trackedV, doesV, clearFlagV, MachineView, viewMachine, WholeMachine, machineDoesV}
 use Rattle.snapshot.specs.Calls.{Named, program, Given, named, clear-flag, clearFlag, Careful, AllCareful, answer, Told, told, answers, leaves}
-use Rattle.snapshot.proofs.WellFormed.{marked-whole, op-whole, clear-whole, given-whole, fresh-told, fresh-done}
+use Rattle.snapshot.proofs.WellFormed.{whole-formed, lengths-reply, marked-whole, op-whole, clear-whole, given-whole, fresh-told, fresh-done}
 
 -- ---- the record of a dirty page is not seen
 
@@ -177,7 +177,7 @@ module _ (m : Tracked) (w : Whole m) (p id offset : ℕ) (inside : p < length (m
   unfolding sparse.clearFlag andFlag
   flag-seen =
       let h : p < m .0 .memory .size / pageSize = omega (arith, w .memory .formed .fit .flags-are) in
-      simp (lengths-reply (m .0) (w .memory .formed), lt-ltb p _ inside, lt-ltb p _ h) at
+      simp (memory-replies.lengths-reply (m .0) (w .memory .formed), lt-ltb p _ inside, lt-ltb p _ h) at
       (memory-laws.clear-seen p dirty (m .0) (w .memory) .seen)
 
   entry-seen : entryIn (set (m .0 .flags) p f) (withRecord (m .1) p t) ≡ entry-at (entryIn (m .0 .flags) (m .1)) p t
@@ -217,15 +217,11 @@ track-like m w p id offset =
     go true false e = looks m w 2 2 refl
     go false c e = looks m w 2 2 refl
 
-lengths-seen : (m : Tracked) → Whole m → fitsTracked m ≡ true
-unfolding fitsAll recordsFit
-lengths-seen m w = rw (lengths-reply (m .0) (w .memory .formed), eq-eqb _ _ (w .records-are))
-
 pub like : (o : AnyOp) (m : Tracked) → Whole m → Like Whole view (does o m) (doesV o (view m))
 like (low o) m w =
     below m _ _ (memory-laws.like o (m .0) (w .memory)) (memory-laws.op-dirty o (memory.view (m .0))) (m .1) (op-whole (low o) m w)
     (λ q. refl)
-like (own lengths?) m w = looks m w _ _ (lengths-seen m w)
+like (own lengths?) m w = looks m w _ _ (lengths-reply m (whole-formed m w))
 like (own (entry? p)) m w = looks m w _ _ refl
 like (own (track! p id offset)) m w = track-like m w p id offset
 like (own (drop! p)) m w = drop-like m w p

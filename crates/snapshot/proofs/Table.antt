@@ -1,7 +1,7 @@
 -- Document 01's table, whole: "Proved together, as a single table: the three roundings up, the three page indices, the two 10-byte
 -- item loads, and these for 4 pages: two bytes at 16,383, ..; track (4,096, 4,095) none; (4,096, 4,096) page 1; (1, 4,094) none;
 -- (100, 10,000) page 1, 3,996 bytes on."
-use mathlib.Core.Path.{_≡_, refl, ap, _∙_, subst⁻¹}
+use mathlib.Core.Path.{_≡_, refl, sym, ap, _∙_, subst⁻¹}
 use mathlib.Core.Bool.{Bool, true, false, cond}
 use mathlib.Core.List.{List, [], _∷_}
 use mathlib.Core.Logic.{_≢_}
@@ -17,17 +17,18 @@ use Rattle.words.specs.Bytes.{filled}
 use Rattle.words.proofs.Filled.{length-filled}
 use Rattle.program.specs.Program.{ret, run, bind, after, onwards, each}
 use Rattle.memory.specs.Pages.{dirty}
-use Rattle.memory.specs.Storage.{Fitting, stateOf, absent, fitsLengths, freshMemory}
+use Rattle.memory.specs.Storage.{stateOf, absent, fitsLengths, freshMemory}
 use Rattle.memory.specs.Storage as storage
 use Rattle.memory.proofs.Lengths.{fits-are}
 use Rattle.memory.proofs.Table as memory
-use Rattle.machine.specs.Fresh.{Tracked, LentMachine, recordWords, fresh, freshOver, recordsFit}
+use Rattle.machine.specs.Fresh.{Tracked, recordWords, fresh, freshOver, recordsFit}
 use Rattle.snapshot.specs.declared.records.Tracking.the-variants as tracking
 use Rattle.snapshot.specs.Sources.{entryWords, found, missing, findData, among, dataIn, dataOf}
 use Rattle.snapshot.specs.Records.{recordOf}
-use Rattle.snapshot.specs.Operations.{top, does, fitsAll, fitting, masked, entryIn, trackPage}
+use Rattle.snapshot.specs.Operations.{top, does, fitsAll, masked, entryIn, trackPage}
 use Rattle.snapshot.specs.Tracking.{track, trackWhole, trackPages}
-use Rattle.snapshot.proofs.WellFormed.{fresh-told, fresh-done}
+use Rattle.snapshot.proofs.Lengths.{all-fit, fit-yes}
+use Rattle.snapshot.proofs.WellFormed.{FreshFits, fresh-told, fresh-done}
 
 -- ---- "the two 10-byte item loads"
 
@@ -174,10 +175,10 @@ module _ (slots area : List ℕ) (id offset : ℕ) where
       ap (λ (r : ℕ × Tracked). run does (onwards (λ n. n) (ret 0) (r .0)) (r .1)) (ap (trackPage (blank slots area) 1 id) z ∙ page-marked h)
 
 -- lengths are right, and the offset is in bounds
-module _ (slots area : List ℕ) (id offset : ℕ) (fit : fitsAll (length slots) 4 (length area) 12 (freshMemory 16384) ≡ true) where
+module _ (slots area : List ℕ) (id offset : ℕ) (fit : true ≡ fitsAll (length slots) 4 (length area) 12 (freshMemory 16384)) where
   fitted : (start size : ℕ) → tracks start size id offset (blank slots area) ≡ run does (track start size id offset) (blank slots area)
-  unfolding run fitting trackPages
-  fitted start size = ap (λ (b : Bool). run does (cond b (track start size id offset) (ret 9)) (blank slots area)) fit
+  unfolding trackPages
+  fitted start size = sym (fit-yes (λ n. n) (blank slots area) (track start size id offset) true fit _ refl refl)
 
   head-run : tracks 1 4094 id offset (blank slots area) ≡ (0, blank slots area)
   unfolding run track
@@ -238,7 +239,7 @@ page-one slots area id offset r e =
       others = λ p n. mark-none zeros (words id offset 256) p (marks-none id offset 256 p (λ t. absurd (n t)));
     })
 
-blank-tracks : (slots area : List ℕ) (id offset : ℕ) → fitsAll (length slots) 4 (length area) 12 (freshMemory 16384) ≡ true
+blank-tracks : (slots area : List ℕ) (id offset : ℕ) → true ≡ fitsAll (length slots) 4 (length area) 12 (freshMemory 16384)
     → Tracks (blank slots area) id offset
 blank-tracks slots area id offset fit =
     record {
@@ -250,35 +251,30 @@ blank-tracks slots area id offset fit =
       across = λ h. page-one slots area id (offset + 3996) _ (across-run slots area id offset fit h);
     }
 
--- ---- a fresh machine
+-- ---- a fresh machine of 4 pages
 
--- of 4 pages
 module _ (slots flags area records : List ℕ) (version maximum : ℕ)
     (e : (fresh slots flags area records 16384 version maximum) .0 ≡ 0) where
-  abbrev made : Tracked
-  made = (fresh slots flags area records 16384 version maximum) .1 .0
+  told : FreshFits slots flags area records 16384 version maximum
+  told = fresh-told slots flags area records 16384 version maximum e
 
-  lengths-of : Fitting (length slots) (length flags) (length area) (freshMemory 16384)
-  lengths-of = fits-are _ _ _ _ (fresh-told slots flags area records 16384 version maximum e .1)
+  pages : length flags ≡ 4
+  pages = fits-are _ _ _ _ (told .1) .flags-are
 
-  words-of : length records ≡ 12
-  unfolding recordsFit
-  words-of = eqb-true (length records) 12 (fresh-told slots flags area records 16384 version maximum e .0)
-
-  blank-made : made ≡ blank (filled (length slots) absent) area
-  unfolding filled
+  blank-made : (fresh slots flags area records 16384 version maximum) .1 .0 ≡ blank (filled (length slots) absent) area
+  unfolding filled recordsFit
   blank-made =
-      let n : length flags ≡ 4 = lengths-of .flags-are in
-      ap (λ (r : ℕ × LentMachine). r .1 .0) (fresh-done slots flags area records 16384 version maximum e) ∙ rw (n, words-of)
+      let n : length records ≡ 12 = eqb-true _ _ (told .0) in
+      rw (fresh-done slots flags area records 16384 version maximum e, pages, n)
 
-  blank-fits : fitsAll (length (filled (length slots) absent)) 4 (length area) 12 (freshMemory 16384) ≡ true
-  unfolding fitsAll recordsFit
-  blank-fits =
-      let n : length flags ≡ 4 = lengths-of .flags-are in
-      rw (length-filled, ← n, fresh-told slots flags area records 16384 version maximum e .1)
+  blank-fits : true ≡ fitsAll (length (filled (length slots) absent)) 4 (length area) 12 (freshMemory 16384)
+  unfolding recordsFit
+  blank-fits = all-fit _ 4 (length area) 12 _ true true (rw (length-filled, ← pages, told .1)) refl refl
 
-  pub tracked-pages : (id offset : ℕ) → Tracks made id offset
-  tracked-pages id offset = subst⁻¹ (λ (m : Tracked). Tracks m id offset) blank-made (blank-tracks (filled (length slots) absent) area id offset blank-fits)
+  tracked-pages : (id offset : ℕ) → Tracks ((fresh slots flags area records 16384 version maximum) .1 .0) id offset
+  tracked-pages id offset =
+      subst⁻¹ (λ (m : Tracked). Tracks m id offset) blank-made
+      (blank-tracks (filled (length slots) absent) area id offset blank-fits)
 
 -- ---- all of it
 

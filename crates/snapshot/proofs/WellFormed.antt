@@ -8,7 +8,7 @@ use Prim.Native.Nat.{ℕ, _+_, _*_, _/_, _≤_}
 use native.Mathlib.Omega.{arith}
 use lib.ListN.{length, set, length-set}
 use lib.Dec.{ltb, leb}
-use borrow.Author.Tests.{eqb-true}
+use borrow.Author.Tests.{eq-eqb, eqb-true}
 use Rattle.bits.specs.Rounding.{pageSize}
 use Rattle.words.specs.Bytes.{filled}
 use Rattle.words.proofs.Filled.{length-filled}
@@ -18,7 +18,7 @@ use Rattle.program.proofs.Keeps.{kept}
 use Rattle.memory.specs.Storage.{State, stateOf, absent, fitsLengths, freshMemory, noMemory}
 use Rattle.memory.specs.Storage as storage
 use Rattle.memory.specs.View as memory
-use Rattle.memory.proofs.Lengths.{fits-are}
+use Rattle.memory.proofs.Lengths.{fits-yes, fits-are}
 use Rattle.memory.proofs.StoreCases.{cases}
 use Rattle.memory.proofs.WellFormed as memory-laws
 use Rattle.machine.specs.Numbers.{freshNumbers, noNumbers}
@@ -26,7 +26,7 @@ use Rattle.machine.specs.Fresh.{Tracked, LentMachine, recordWords, recordsFit, 
 use Rattle.snapshot.specs.declared.records.Tracking.{Tracking}
 use Rattle.snapshot.specs.declared.records.Tracking.the-variants as tracking
 use Rattle.snapshot.specs.Records.{withRecord}
-use Rattle.snapshot.specs.Operations.{lengths?, entry?, track!, drop!, AnyOp, MachineOp, marked, clean, trackPage, dropPage, does, machineDoes, Call, MachineCall, top}
+use Rattle.snapshot.specs.Operations.{lengths?, entry?, track!, drop!, AnyOp, MachineOp, fitsAll, fitsTracked, marked, clean, trackPage, dropPage, does, machineDoes, Call, MachineCall, top}
 use Rattle.snapshot.specs.View.{WellFormed, Whole, FormedMachine, WholeMachine}
 use Rattle.snapshot.specs.Calls.{Named, program, Given, named, clear-flag, clearFlag, answer, leaves}
 
@@ -118,6 +118,15 @@ formed-same m t e f w = record { memory = f; records-are = records-same m t e (w
 
 whole-same : (m t : Tracked) → SameLengths m t → memory.Whole (t .0) → Whole m → Whole t
 whole-same m t e f w = record { memory = f; records-are = records-same m t e (w .records-are) }
+
+pub whole-formed : (m : Tracked) → Whole m → WellFormed m
+whole-formed m w = record { memory = w .memory .formed; records-are = w .records-are }
+
+-- the lengths are right
+pub lengths-reply : (m : Tracked) → WellFormed m → fitsTracked m ≡ true
+unfolding fitsAll recordsFit
+lengths-reply m w =
+    rw (fits-yes _ _ _ _ (w .memory .fit), eq-eqb (length (m .1)) (recordWords * length (m .0 .flags)) (w .records-are))
 
 -- the memory of a machine with a page marked
 flag-formed : (s : State) (p f : ℕ) → memory.WellFormed s

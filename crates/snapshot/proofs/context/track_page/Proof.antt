@@ -1,5 +1,10 @@
 -- A page past the machine, an offset too far, else the flag and the record.
+use mathlib.Core.Path.{_≡_}
+use Prim.Native.Nat.{ℕ}
 use borrow.Author.Needs.{needs}
+use Rattle.snapshot.specs.declared.records.Tracking.the-variants.{Tracked}
+use Rattle.snapshot.specs.Records.{withRecord}
+use Rattle.snapshot.specs.Operations.{clean}
 use Rattle.snapshot.proofs.TrackPages.{track-past, track-far, track-there}
 use Rattle.snapshot.proofs.context.track_page.Statement.{statement}
 use Rattle.snapshot.proofs.context.track_page.Tie as tie
@@ -26,7 +31,11 @@ same-length-2 : tie.Need-same-length-2
 same-length-2 c = search needs
 
 returns-3 : tie.Need-returns-3
-returns-3 c = search (needs, track-there)
+returns-3 c =
+    let a = c .before .before .before .before .before .before .before .before .before .before .before .args in
+    let flag : ℕ = clean (a .flags .now) (a .page) in
+    let e : _ ≡ withRecord (a .records .now) (a .page) (Tracked (a .id) (a .offset) flag) = c .before .before .write-record .ensures in
+    track-there _ _ _ _ _ _ _ _ (search needs) _ (search needs) e
 
 pub track-page-spec : {M : Type 1} → statement M
 track-page-spec =

@@ -1,5 +1,13 @@
 -- Lengths, the distance, the two bounds, then the whole pages.
+use mathlib.Core.Path.{_≡_}
+use Prim.Native.Nat.{ℕ, _+_, _-_, _/_}
 use borrow.Author.Needs.{needs}
+use Rattle.bits.specs.Rounding.{pageSize}
+use Rattle.program.specs.Program.{run}
+use Rattle.machine.specs.Fresh.{Tracked}
+use Rattle.snapshot.specs.Operations.{does}
+use Rattle.snapshot.specs.Tracking.{trackWhole}
+use Rattle.snapshot.specs.Answers.{trackedOf}
 use Rattle.snapshot.specs.Tracking.{trackPages}
 use Rattle.snapshot.proofs.Lengths.{fit-not, records-told}
 use Rattle.snapshot.proofs.TrackPages.{track-short, track-high, track-late, track-all}
@@ -44,7 +52,14 @@ same-length-2 : tie.Need-same-length-2
 same-length-2 c = search needs
 
 returns-5 : tie.Need-returns-5
-returns-5 c = search (needs, track-all)
+returns-5 c =
+    let a = c .before .before .before .before .before .before .before .before .before .before .before .before .before .before .before .before .before .args in
+    let d : ℕ = c .before .before .before .before .before .before .before .before .before .before .distance .result in
+    let m : Tracked = trackedOf (a .slots .now) (a .flags .now) (a .area .now) (a .records .now) (a .memory) in
+    let e : _ ≡ run does (trackWhole ((a .start + d) / pageSize) ((a .size - d) / pageSize) (a .id) (a .offset + d)) m =
+    c .before .before .before .before .track-whole .ensures in
+    track-all _ _ _ _ _ _ (c .before .before .before .before .before .before .before .before .before .before .before .before .lengths-fit .ensures) (c .before .before .before .before .before .before .before .before .before .before .before .if1 .taken) _ (c .before .before .before .before .before .before .before .before .before .before .distance .ensures)
+    (c .before .before .before .before .before .before .before .before .before .if2 .left) (c .before .before .before .before .before .before .before .before .if3 .left) _ (c .before .before .before .before .before .before .before .if4 .left) (search needs) e
 
 pub track-pages-spec : {M : Type 1} → statement M
 track-pages-spec =

@@ -1,5 +1,8 @@
 -- An entry that leaves the bytes, an offset above its length, and what is found.
+use mathlib.Core.Path.{_≡_}
+use Prim.Native.Nat.{ℕ, _+_, _-_}
 use borrow.Author.Needs.{needs}
+use Rattle.snapshot.specs.Sources.{found, dataIn}
 use Rattle.snapshot.proofs.Lookup.{entry-past, entry-over, entry-short, entry-found}
 use Rattle.snapshot.proofs.sources.entry_place.Statement.{statement}
 use Rattle.snapshot.proofs.sources.entry_place.Tie as tie
@@ -20,7 +23,12 @@ least-requires : tie.Need-least-requires
 least-requires c κs = search needs
 
 returns-4 : tie.Need-returns-4
-returns-4 c = search (needs, entry-found)
+returns-4 c =
+    let a = c .before .before .before .before .args in
+    let n : ℕ = c .least .result in
+    let e : found (a .start + a .offset) n (a .size - a .offset) ≡ dataIn (a .room) (a .start) (a .size) (a .offset) (a .wanted) =
+    entry-found (a .room) (a .start) (a .size) (a .offset) (a .wanted) (c .before .before .before .if1 .left) (c .before .before .if2 .left) n (c .before .if3 .left) (c .least .ensures) in
+    e
 
 pub entry-place-spec : {M : Type 1} → statement M
 entry-place-spec =

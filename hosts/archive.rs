@@ -3,16 +3,38 @@
 //! A slice goes over as pointer and length, and a memory as two numbers: its size before the other numbers, its
 //! slots in use after them. (Side by side, or in a struct, a caller copies both by one load, which waits for the
 //! store of the slots that the call before handed back.)
-//! A store hands back the slots then in use, on a refusal too: it may have taken some. Nothing checks these
-//! declarations against the crate, so they keep its names and its order of parameters.
+//! A store hands back the slots then in use, on a refusal too: it may have taken some. A machine goes over whole, by
+//! value, and comes back whole. Nothing checks these declarations against the crate, so they keep its names and its
+//! order of parameters.
 
 /// What a memory keeps by value, beside the storage that is lent.
 #[repr(C)]
-#[derive(Clone, Copy)]
+#[derive(Clone, Copy, PartialEq)]
 pub struct Memory {
     pub size: u64,
     pub used: u64,
     pub reservation: u64,
+}
+
+pub const REGISTERS: usize = 32;
+
+/// What a machine keeps by value: its own numbers, and its memory's.
+#[repr(C)]
+#[derive(Clone, Copy)]
+pub struct Machine {
+    pub registers: [u64; REGISTERS],
+    pub pc: u64,
+    pub next_pc: u64,
+    pub version: u32,
+    pub cycles: u64,
+    pub max_cycles: u64,
+    pub memory: Memory,
+}
+
+#[repr(C)]
+pub struct MachineAnswer {
+    pub number: u32,
+    pub machine: Machine,
 }
 
 /// The answer of a call that may take slots.
@@ -23,6 +45,7 @@ pub struct Stored {
 }
 
 #[repr(C)]
+#[derive(PartialEq)]
 pub struct Fresh {
     pub number: u32,
     pub memory: Memory,
@@ -42,6 +65,34 @@ pub struct Indices {
     pub last: u64,
 }
 
+/// Where the data of an item lies in the source bytes: its start, its bytes, and the full length that remains.
+#[repr(C)]
+pub struct Found {
+    pub number: u32,
+    pub start: u64,
+    pub count: u64,
+    pub full: u64,
+}
+
+/// The answer of a context store: the slots in use, the bytes stored, and the full length.
+#[repr(C)]
+pub struct ContextStored {
+    pub number: u32,
+    pub used: u64,
+    pub stored: u64,
+    pub full: u64,
+}
+
+/// What is tracked of a page: nothing where `tracked` is 0.
+#[repr(C)]
+pub struct Recorded {
+    pub number: u32,
+    pub tracked: u32,
+    pub id: u64,
+    pub offset: u64,
+    pub flag: u32,
+}
+
 /// The storage that a call on a memory is lent: a slot number and a flag for each page, and the slots.
 pub struct Lent<'a> {
     pub slots: &'a mut [u16],
@@ -49,14 +100,37 @@ pub struct Lent<'a> {
     pub area: &'a mut [u8],
 }
 
-#[link(name = "host", kind = "static")]
-unsafe extern "C" {
-    #[link_name = "latchpebble_round_page_up"]
-    pub safe fn round_page_up(x: u64) -> u64;
-    #[link_name = "latchpebble_round_page_down"]
-    pub safe fn round_page_down(x: u64) -> u64;
-    #[link_name = "latchpebble_get_page_indices"]
-    pub safe fn get_page_indices(address: u64, size: u64) -> Indices;
+/// The storage that a call of tracking is lent: a memory's, and the words of each page's record.
+pub struct Tracked<'a> {
+    pub lent: Lent<'a>,
+    pub records: &'a mut [u64],
+}
+
+/// The functions that are lent nothing, `latchpebble_..`.
+macro_rules! functions {
+    ($(fn $call:ident($($name:ident: $word:ty),*) -> $answer:ty;)*) => {
+        #[link(name = "host", kind = "static")]
+        unsafe extern "C" {
+            $(#[link_name = concat!("latchpebble_", stringify!($call))]
+            pub safe fn $call($($name: $word),*) -> $answer;)*
+        }
+    };
+}
+
+functions! {
+    fn round_page_up(x: u64) -> u64;
+    fn round_page_down(x: u64) -> u64;
+    fn get_page_indices(address: u64, size: u64) -> Indices;
+    fn machine_register(machine: Machine, i: u64) -> Value;
+    fn machine_set_register(machine: Machine, i: u64, value: u64) -> MachineAnswer;
+    fn machine_pc(machine: Machine) -> u64;
+    fn machine_update_pc(machine: Machine, pc: u64) -> Machine;
+    fn machine_commit_pc(machine: Machine) -> Machine;
+    fn machine_version(machine: Machine) -> u32;
+    fn machine_cycles(machine: Machine) -> u64;
+    fn machine_set_cycles(machine: Machine, cycles: u64) -> Machine;
+    fn machine_max_cycles(machine: Machine) -> u64;
+    fn machine_set_max_cycles(machine: Machine, cycles: u64) -> Machine;
 }
 
 /// The functions of both memories, `latchpebble_sparse_..` and `latchpebble_wxorx_..`.
@@ -226,4 +300,103 @@ impl Calls {
     pub fn set_lr(&self, memory: Memory, value: u64) -> Memory {
         unsafe { (self.set_lr)(memory, value) }
     }
+}
+
+// ---- a memory with its records, and sources
+
+/// The sources: bytes, and a directory of numbers in threes: id, start, length.
+#[derive(Clone, Copy)]
+pub struct Sources<'a> {
+    pub directory: &'a [u64],
+    pub bytes: &'a [u8],
+}
+
+mod lent {
+    use super::{ContextStored, Found, MachineAnswer, Recorded};
+
+    /// The functions that are lent a memory's storage with its records, or sources, `latchpebble_..`.
+    macro_rules! functions {
+        ($(fn $call:ident($($word:ty),*) -> $answer:ty;)*) => {
+            #[link(name = "host", kind = "static")]
+            unsafe extern "C" {
+                $(#[link_name = concat!("latchpebble_", stringify!($call))]
+                pub fn $call($(_: $word),*) -> $answer;)*
+            }
+        };
+    }
+
+    functions! {
+        fn machine_fresh(*mut u16, usize, *mut u8, usize, *mut u8, usize, *mut u64, usize, u64, u32, u64) -> MachineAnswer;
+        fn find_data(*const u64, usize, *const u8, usize, u64, u64, u64) -> Found;
+        fn track_pages(*const u16, usize, *mut u8, usize, *const u8, usize, *mut u64, usize, u64, u64, u64, u64, u64, u64) -> u32;
+        fn untrack_pages(*const u16, usize, *mut u8, usize, *const u8, usize, *mut u64, usize, u64, u64, u64, u64) -> u32;
+        fn context_store_bytes(*mut u16, usize, *mut u8, usize, *mut u8, usize, *mut u64, usize, *const u64, usize, *const u8, usize, u64, u64, u64, u64, u64, u64, u64) -> ContextStored;
+        fn mark_program(*const u16, usize, *mut u8, usize, *const u8, usize, *mut u64, usize, *const u64, usize, u64, u64, u64, u64) -> u32;
+        fn page_record(*const u16, usize, *const u8, usize, *const u8, usize, *const u64, usize, u64, u64, u64) -> Recorded;
+    }
+}
+
+/// A function that is lent storage and records, with the words that follow them.
+macro_rules! lend_tracked {
+    ($function:ident, $tracked:expr $(, $word:expr)*) => {{
+        let Tracked { lent, records } = $tracked;
+        lend!(lent::$function, lent, records.as_mut_ptr(), records.len() $(, $word)*)
+    }};
+}
+
+pub fn machine_fresh(tracked: Tracked, size: u64, version: u32, maximum: u64) -> MachineAnswer {
+    lend_tracked!(machine_fresh, tracked, size, version, maximum)
+}
+
+pub fn find_data(sources: Sources, id: u64, offset: u64, size: u64) -> Found {
+    let Sources { directory, bytes } = sources;
+    // pointers and lengths are those of slices
+    unsafe { lent::find_data(directory.as_ptr(), directory.len(), bytes.as_ptr(), bytes.len(), id, offset, size) }
+}
+
+pub fn track_pages(tracked: Tracked, memory: Memory, start: u64, size: u64, id: u64, offset: u64) -> u32 {
+    lend_tracked!(track_pages, tracked, memory.size, start, size, id, offset, memory.used)
+}
+
+pub fn untrack_pages(tracked: Tracked, memory: Memory, start: u64, size: u64) -> u32 {
+    lend_tracked!(untrack_pages, tracked, memory.size, start, size, memory.used)
+}
+
+/// `place` is where the full length is stored.
+#[allow(clippy::too_many_arguments)]
+pub fn context_store_bytes(
+    tracked: Tracked,
+    sources: Sources,
+    memory: Memory,
+    address: u64,
+    id: u64,
+    offset: u64,
+    size: u64,
+    place: u64,
+) -> ContextStored {
+    let Sources { directory, bytes } = sources;
+    lend_tracked!(
+        context_store_bytes,
+        tracked,
+        directory.as_ptr(),
+        directory.len(),
+        bytes.as_ptr(),
+        bytes.len(),
+        memory.size,
+        address,
+        id,
+        offset,
+        size,
+        place,
+        memory.used
+    )
+}
+
+/// The actions are numbers in sixes: address, size, flags, source start, source end, lead.
+pub fn mark_program(tracked: Tracked, actions: &[u64], memory: Memory, id: u64, offset: u64) -> u32 {
+    lend_tracked!(mark_program, tracked, actions.as_ptr(), actions.len(), memory.size, id, offset, memory.used)
+}
+
+pub fn page_record(tracked: Tracked, memory: Memory, page: u64) -> Recorded {
+    lend_tracked!(page_record, tracked, memory.size, page, memory.used)
 }

@@ -2,7 +2,8 @@
 //!
 //! A case is a round of equal calls. Both sides make it in turn, many times over, and a side's time is its best
 //! round. Each side pays for one call that is not inlined: of a function below, or of the archive. Every page is
-//! present, in the slot of its own number. No call may be refused, and in the end both memories hold the same bytes.
+//! present, in the slot of its own number. No call may be refused, and in the end both memories hold the same bytes,
+//! and both machines the same flags and records.
 //!
 //! It prints a line for each case: layer, call, bytes, nanoseconds a call of the Rust and of the port, and for whole
 //! pages those of memmove or memset alone. tools/bench runs it and prints the table.
@@ -10,9 +11,12 @@
 #[allow(dead_code)]
 mod archive;
 
-use archive::{Calls, Lent, SPARSE, Stored, Value, WXORX};
+use archive::{Calls, ContextStored, Lent, Recorded, SPARSE, Sources, Stored, Tracked, Value, WXORX};
+use ckb_vm::elf::{LoadingAction, ProgramMetadata};
+use ckb_vm::machine::{CoreMachine, DefaultCoreMachine, SupportMachine};
 use ckb_vm::memory::sparse::SparseMemory;
 use ckb_vm::memory::wxorx::WXorXMemory;
+use ckb_vm::snapshot2::{DataSource, Snapshot2Context};
 use ckb_vm::{Bytes, Error, memory::Memory};
 use std::hint::black_box;
 use std::marker::PhantomData;
@@ -31,6 +35,12 @@ const FILL: usize = 64 * PAGE;
 const START: usize = 16;
 const EXECUTABLE: u8 = 2;
 const ROUNDS: usize = 300;
+/// The item that context stores take, the pages that they store, and how far past a page they start.
+const ITEM: u64 = 7;
+const STORED: [usize; 5] = [1, 4, 16, 64, 256];
+const PAST: usize = 100;
+/// Loading actions, and the pages of each.
+const ACTIONS: [(usize, usize); 5] = [(1, 1), (1, 16), (1, 256), (16, 1), (16, 16)];
 
 // ---- the upstream Rust: one call each that is not inlined
 
@@ -180,12 +190,12 @@ fn race(calls: u64, mut rust: impl FnMut(u64), mut port: impl FnMut(u64), mut pl
 fn nothing(_: u64) {}
 
 /// `plain` is what the third time is of; it is said for whole pages.
-fn say<L: Layer>(call: &str, bytes: usize, [rust, port, beside]: [f64; 3], plain: &str) {
-    print!("{} {call} {bytes} {rust:.2} {port:.2}", L::NAME);
-    if bytes >= PAGE { println!(" {beside:.2} {plain}") } else { println!() }
+fn say(layer: &str, call: &str, bytes: usize, [rust, port, beside]: [f64; 3], plain: &str) {
+    print!("{layer} {call} {bytes} {rust:.2} {port:.2}");
+    if bytes >= PAGE && !plain.is_empty() { println!(" {beside:.2} {plain}") } else { println!() }
 }
 
-// ---- the cases
+// ---- the cases of a memory
 
 fn time<L: Layer>() {
     let rust = Box::leak(Box::new(L::Upstream::new_with_memory(SIZE)));
@@ -216,7 +226,7 @@ fn time<L: Layer>() {
             // bytes of the area, and a source that is apart from it
             |_| unsafe { ptr::copy(bytes.as_ptr(), black_box(place), bytes.len()) },
         );
-        say::<L>("store_bytes", n, times, "memmove");
+        say(L::NAME, "store_bytes", n, times, "memmove");
     }
     for n in SIZES {
         let (calls, size) = (calls_of(n), black_box(n as u64));
@@ -226,7 +236,7 @@ fn time<L: Layer>() {
             |_| refused |= port.store_byte(at, size, value),
             |_| unsafe { ptr::write_bytes(black_box(place), value, size as usize) },
         );
-        say::<L>("store_byte", n, times, "memset");
+        say(L::NAME, "store_byte", n, times, "memset");
     }
     let to = out.as_mut_ptr();
     for n in SIZES {
@@ -237,7 +247,7 @@ fn time<L: Layer>() {
             |_| refused |= port.load_bytes(out, at, size),
             |_| unsafe { ptr::copy(black_box(place), to, size as usize) },
         );
-        say::<L>("load_bytes", n, times, "memmove");
+        say(L::NAME, "load_bytes", n, times, "memmove");
     }
 
     let words = (PAGE / 8) as u64;
@@ -247,7 +257,7 @@ fn time<L: Layer>() {
         |i| refused |= port.store64(at + 8 * i, i),
         nothing,
     );
-    say::<L>("store64", 8, times, "");
+    say(L::NAME, "store64", 8, times, "");
     let (mut here, mut there) = (0u64, 0u64);
     let mut add = |loaded: Result<u64, Error>| match loaded {
         Ok(value) => here = here.wrapping_add(value),
@@ -258,7 +268,7 @@ fn time<L: Layer>() {
         refused |= loaded.number;
     };
     let times = race(words, |i| add(load64(rust, at + 8 * i)), |i| also(port.load64(at + 8 * i)), nothing);
-    say::<L>("load64", 8, times, "");
+    say(L::NAME, "load64", 8, times, "");
 
     let (from, size, flag) = (black_box(FILLED as u64), black_box(FILL as u64), black_box(EXECUTABLE));
     let times = race(
@@ -267,7 +277,7 @@ fn time<L: Layer>() {
         |_| refused |= port.init_pages(from, size, flag),
         |_| unsafe { ptr::write_bytes(black_box(filled), 0, size as usize) },
     );
-    say::<L>("init_pages", FILL, times, "memset");
+    say(L::NAME, "init_pages", FILL, times, "memset");
 
     // over the end of a page: not among the cases of the goal
     let (end, bytes) = (at + PAGE as u64, black_box(&source[..64]));
@@ -277,10 +287,10 @@ fn time<L: Layer>() {
         |_| refused |= port.store_bytes(end - 32, bytes),
         nothing,
     );
-    say::<L>("store_bytes,across", 64, times, "");
+    say(L::NAME, "store_bytes,across", 64, times, "");
     let times =
         race(words, |i| failed |= store64(rust, end - 4, i).is_err(), |i| refused |= port.store64(end - 4, i), nothing);
-    say::<L>("store64,across", 8, times, "");
+    say(L::NAME, "store64,across", 8, times, "");
 
     assert!(!failed && refused == 0, "a call was refused");
     assert!(here == there, "the numbers loaded differ");
@@ -290,7 +300,155 @@ fn time<L: Layer>() {
     }
 }
 
+// ---- the cases of sources and tracking
+
+type Core = DefaultCoreMachine<u64, WXorXMemory<SparseMemory<u64>>>;
+type Context = Snapshot2Context<u64, Item>;
+
+/// The only item of the Rust's source: its bytes are handed out without a copy.
+struct Item(&'static [u8]);
+
+impl DataSource<u64> for Item {
+    fn load_data(&self, id: &u64, offset: u64, length: u64) -> Option<(Bytes, u64)> {
+        let rest = self.0.get(offset as usize..).filter(|_| *id == ITEM)?;
+        let full = rest.len() as u64;
+        Some((Bytes::from_static(&rest[..full.min(length) as usize]), full))
+    }
+}
+
+#[inline(never)]
+fn context_store(context: &mut Context, core: &mut Core, address: u64, length: u64) -> Result<(u64, u64), Error> {
+    context.store_bytes(core, address, &ITEM, 0, length, 0)
+}
+
+#[inline(never)]
+fn mark_program(context: &mut Context, core: &mut Core, metadata: &ProgramMetadata) -> Result<(), Error> {
+    context.mark_program(core, metadata, &ITEM, 0)
+}
+
+/// A machine's memory and records of the port, as a host holds them.
+struct Tracking<'a> {
+    slots: &'a mut [u16],
+    flags: &'a mut [u8],
+    area: &'a mut [u8],
+    records: &'a mut [u64],
+    memory: archive::Memory,
+}
+
+impl Tracking<'_> {
+    fn tracked(&mut self) -> Tracked<'_> {
+        let lent = Lent { slots: self.slots, flags: self.flags, area: self.area };
+        Tracked { lent, records: self.records }
+    }
+
+    fn context_store(&mut self, sources: Sources, address: u64, length: u64) -> ContextStored {
+        let memory = self.memory;
+        let stored = archive::context_store_bytes(self.tracked(), sources, memory, address, ITEM, 0, length, 0);
+        self.memory.used = stored.used;
+        stored
+    }
+
+    fn mark_program(&mut self, actions: &[u64]) -> u32 {
+        let memory = self.memory;
+        archive::mark_program(self.tracked(), actions, memory, ITEM, 0)
+    }
+
+    fn record(&mut self, page: usize) -> Recorded {
+        let memory = self.memory;
+        archive::page_record(self.tracked(), memory, page as u64)
+    }
+}
+
+fn time_tracking() {
+    let rust = Box::leak(Box::new(Core::new_with_memory(0, 1, 0, SIZE)));
+    let (mut slots, mut flags, area) = (vec![0; PAGES], vec![0; PAGES], block(SIZE));
+    let mut records = vec![0; 3 * PAGES];
+    let (slots, flags, records) = (&mut slots[..], &mut flags[..], &mut records[..]);
+    let place = area[PLACE..].as_mut_ptr();
+    let lent = Lent { slots, flags, area };
+    let fresh = archive::machine_fresh(Tracked { lent, records }, SIZE as u64, 1, 0);
+    let mut memory = fresh.machine.memory;
+    let filled = WXORX.store_byte(Lent { slots, flags, area }, memory, 0, SIZE as u64, 1);
+    memory.used = filled.used;
+    let mut port = Tracking { slots, flags, area, records, memory };
+    let port = black_box(&mut port);
+    let mut refused = fresh.number | filled.number;
+    let mut failed = store_byte(rust.memory_mut(), 0, SIZE as u64, 1).is_err();
+
+    let item = block(256 * PAGE);
+    for (i, byte) in item.iter_mut().enumerate() {
+        *byte = (i * 7 + i / 256) as u8;
+    }
+    let item = &*item;
+    let context = Box::leak(Box::new(Context::new(Item(item))));
+    let directory = [ITEM, 0, item.len() as u64];
+    let sources = Sources { directory: black_box(&directory), bytes: black_box(item) };
+
+    for past in [0, PAST] {
+        let call = if past == 0 { "context_store" } else { "context_store,at,100" };
+        for pages in STORED {
+            let n = pages * PAGE;
+            let (at, size) = (black_box((PLACE + past) as u64), black_box(n as u64));
+            let to = black_box(place.wrapping_add(past));
+            let times = race(
+                calls_of(n),
+                |_| failed |= !context_store(context, rust, at, size).is_ok_and(|(stored, _)| stored == size),
+                |_| {
+                    let answer = port.context_store(sources, at, size);
+                    refused |= answer.number | u32::from(answer.stored != size);
+                },
+                // bytes of the area, and a source that is apart from it
+                |_| unsafe { ptr::copy(item.as_ptr(), to, size as usize) },
+            );
+            say("machine", call, n, times, "memmove");
+        }
+    }
+    for (count, pages) in ACTIONS {
+        let size = (pages * PAGE) as u64;
+        let action = |i: usize| LoadingAction {
+            addr: FILLED as u64 + i as u64 * size,
+            size,
+            flags: EXECUTABLE,
+            source: i as u64 * size..(i + 1) as u64 * size,
+            offset_from_addr: 0,
+        };
+        let metadata = ProgramMetadata { actions: (0..count).map(action).collect(), entry: 0 };
+        let six =
+            |a: &LoadingAction| [a.addr, a.size, a.flags.into(), a.source.start, a.source.end, a.offset_from_addr];
+        let actions: Vec<u64> = metadata.actions.iter().flat_map(six).collect();
+        let (metadata, actions) = (black_box(&metadata), black_box(&actions[..]));
+        let times = race(
+            calls_of(count * pages * PAGE / 8),
+            |_| failed |= mark_program(context, rust, metadata).is_err(),
+            |_| refused |= port.mark_program(actions),
+            nothing,
+        );
+        let call = if count == 1 { "mark_program".into() } else { format!("mark_program,{count},actions") };
+        say("machine", &call, count * pages * PAGE, times, "");
+    }
+
+    assert!(!failed && refused == 0, "a call was refused");
+    let snapshot = context.make_snapshot(rust).expect("a snapshot of what is tracked");
+    let mut from = vec![None; PAGES];
+    for (address, flag, id, offset, length) in &snapshot.pages_from_source {
+        for at in (0..*length).step_by(PAGE) {
+            from[(address + at) as usize / PAGE] = Some((*id, offset + at, u32::from(*flag)));
+        }
+    }
+    for page in 0..PAGES {
+        let loaded = rust.memory_mut().load_bytes((page * PAGE) as u64, PAGE as u64);
+        let bytes = &port.area[page * PAGE..][..PAGE];
+        assert!(loaded.is_ok_and(|loaded| loaded[..] == *bytes), "the bytes of page {page} differ");
+        let flag = rust.memory_mut().fetch_flag(page as u64);
+        assert!(flag.is_ok_and(|flag| flag == port.flags[page]), "the flags of page {page} differ");
+        let Recorded { number, tracked, id, offset, flag } = port.record(page);
+        let record = (tracked != 0).then_some((id, offset, flag));
+        assert!(number == 0 && record == from[page], "the records of page {page} differ");
+    }
+}
+
 fn main() {
     time::<Sparse>();
     time::<WXorX>();
+    time_tracking();
 }

@@ -1,22 +1,28 @@
 //! The port behind the call script, over the archive of crate `host`.
 //!
-//! It answers what the archive has: rounding, page indices and the calls on a memory. A call that the
-//! archive does not have is answered `?`, like a line that is none of the format.
+//! It answers what the archive has: rounding, page indices, and the calls on a memory, on a machine's numbers, of
+//! sources and of tracking. A call that the archive does not have (snapshot, resume and their files) is answered
+//! `?`, like a line that is none of the format.
 //!
-//! The storage that `fresh` makes is held here and lent to each call. `fresh`, the flag calls, the
-//! reservation and `dump` have no letter: a machine with an even number asks the W^X memory for them, one
-//! with an odd number the sparse memory.
+//! The storage that `fresh` makes is held here and lent to each call, and so are the sources. The flag calls, the
+//! reservation and `dump` have no letter: a machine with an even number asks the W^X memory for them, one with an odd
+//! number the sparse memory. The numbers that an odd one lends have a part of an entry or of an action after the last
+//! whole one.
 
 mod archive;
 // what is read of a line whose call is not in the archive
 #[allow(dead_code)]
 mod callscript;
 
-use archive::{Calls, Fresh, Lent, Memory, SPARSE, Stored, Value, WXORX};
-use callscript::{Call, Fault, Host, Layer, Line, MOST_BYTES, UNWRITTEN, Width, hash, hex};
+use archive::{
+    Calls, ContextStored, Found, Fresh, Lent, MachineAnswer, Recorded, SPARSE, Sources, Stored, Tracked, Value, WXORX,
+};
+use callscript::{Action, Call, Fault, Host, Layer, Line, MOST_BYTES, UNWRITTEN, Width, hash, hex};
 
 const PAGE: u64 = 4096;
-/// What the storage of a fresh memory is filled with before the call.
+/// The words of a page's record.
+const RECORD: usize = 3;
+/// What the storage of a fresh machine is filled with before the call.
 const BEFORE: u8 = 0xa5;
 /// The most pages that storage is made for. It is far above the most that a memory can have: every size that
 /// asks for more is refused.
@@ -54,20 +60,32 @@ impl<T: Clone + Default> Held<T> {
     }
 }
 
-struct Machine {
-    memory: Memory,
+/// What is lent to a machine's calls.
+struct Storage {
     slots: Held<u16>,
     flags: Held<u8>,
-    /// the records' words: no call of the archive is lent them yet
     words: Held<u64>,
     area: Held<u8>,
-    /// where the calls without a letter go
-    own: &'static Calls,
 }
 
-impl Machine {
+impl Storage {
+    /// For so many pages, with so many bytes of slots.
+    fn new(pages: usize, area: usize) -> Self {
+        Storage {
+            slots: Held::new(u16::from_le_bytes([BEFORE; 2]), pages),
+            flags: Held::new(BEFORE, pages),
+            words: Held::new(u64::from_le_bytes([BEFORE; 8]), RECORD * pages),
+            area: Held::new(BEFORE, area),
+        }
+    }
+
     fn lent(&mut self) -> Lent<'_> {
         Lent { slots: self.slots.now(), flags: self.flags.now(), area: self.area.now() }
+    }
+
+    fn tracked(&mut self) -> Tracked<'_> {
+        let lent = Lent { slots: self.slots.now(), flags: self.flags.now(), area: self.area.now() };
+        Tracked { lent, records: self.words.now() }
     }
 
     fn lend(&mut self, lengths: Option<[u64; 4]>) -> Result<(), Fault> {
@@ -87,12 +105,30 @@ impl Machine {
         Ok(())
     }
 
+    /// Whether a memory's part of both is the same.
+    fn same_memory(&self, other: &Storage) -> bool {
+        self.slots.all == other.slots.all && self.flags.all == other.flags.all && self.area.all == other.area.all
+    }
+
     /// Writes a page's slot number where one is held, lent or not.
     fn write_slot(&mut self, page: u64, number: u16) {
         if let Some(slot) = usize::try_from(page).ok().and_then(|page| self.slots.all.get_mut(page)) {
             *slot = number;
         }
     }
+}
+
+struct Machine {
+    /// what it keeps by value, its memory's numbers too
+    numbers: archive::Machine,
+    storage: Storage,
+    odd: bool,
+}
+
+#[derive(Default)]
+struct HeldSources {
+    directory: Vec<u64>,
+    bytes: Vec<u8>,
 }
 
 fn calls(layer: Layer) -> &'static Calls {
@@ -108,27 +144,50 @@ fn value(Value { number, value }: Value) -> String {
     format!("{number} {value}")
 }
 
+fn done() -> String {
+    "0".into()
+}
+
 impl Machine {
+    /// Where the calls without a letter go.
+    fn own(&self) -> &'static Calls {
+        if self.odd { &SPARSE } else { &WXORX }
+    }
+
     /// The slots that are handed back are the machine's, on a refusal too.
     fn stored(&mut self, Stored { number, used }: Stored) -> String {
-        self.memory.used = used;
+        self.numbers.memory.used = used;
         number.to_string()
     }
 
+    /// The directory for a call that looks for an item: an odd machine's has the front of one more entry of it.
+    fn directory(&self, sources: &HeldSources, id: u64) -> Vec<u64> {
+        let more = if self.odd { &[id, 0][..] } else { &[] };
+        [&sources.directory, more].concat()
+    }
+
+    /// The actions' numbers: an odd machine's have the front of one more, which would be refused.
+    fn actions(&self, actions: &[Action]) -> Vec<u64> {
+        let numbers = |a: &Action| [a.address, a.size, a.flags.into(), a.start, a.end, a.lead];
+        let more = if self.odd { &[0, PAGE, 0, 1, 0][..] } else { &[] };
+        [&actions.iter().flat_map(numbers).collect::<Vec<_>>(), more].concat()
+    }
+
     /// `out` is written over: each output is made in it.
-    fn call(&mut self, out: &mut Vec<u8>, call: Call) -> Result<String, Fault> {
-        let (own, memory) = (self.own, self.memory);
+    fn call(&mut self, sources: &HeldSources, out: &mut Vec<u8>, call: Call) -> Result<String, Fault> {
+        let (own, numbers, memory) = (self.own(), self.numbers, self.numbers.memory);
+        let storage = &mut self.storage;
         let mut output = |room| {
             out.clear();
             out.resize(room, UNWRITTEN);
         };
         Ok(match call {
             Call::StoreBytes { layer, address, bytes } => {
-                let stored = calls(layer).store_bytes(self.lent(), &bytes, memory, address);
+                let stored = calls(layer).store_bytes(storage.lent(), &bytes, memory, address);
                 self.stored(stored)
             }
             Call::StoreByte { layer, address, size, value } => {
-                let stored = calls(layer).store_byte(self.lent(), memory, address, size, value);
+                let stored = calls(layer).store_byte(storage.lent(), memory, address, size, value);
                 self.stored(stored)
             }
             Call::Store { layer, width, address, value } => {
@@ -138,11 +197,11 @@ impl Machine {
                     Width::Four => Calls::store32,
                     Width::Eight => Calls::store64,
                 };
-                let stored = store(calls(layer), self.lent(), memory, address, value);
+                let stored = store(calls(layer), storage.lent(), memory, address, value);
                 self.stored(stored)
             }
             Call::InitPages { layer, address, size, flags, lead, bytes } => {
-                let stored = calls(layer).init_pages(self.lent(), &bytes, memory, address, size, flags, lead);
+                let stored = calls(layer).init_pages(storage.lent(), &bytes, memory, address, size, flags, lead);
                 self.stored(stored)
             }
             Call::Load { layer, width, address } => {
@@ -152,7 +211,7 @@ impl Machine {
                     Width::Four => Calls::load32,
                     Width::Eight => Calls::load64,
                 };
-                value(load(calls(layer), self.lent(), memory, address))
+                value(load(calls(layer), storage.lent(), memory, address))
             }
             Call::ExecuteLoad { layer, width, address } => {
                 let load = match width {
@@ -160,75 +219,121 @@ impl Machine {
                     Width::Four => Calls::execute_load32,
                     Width::One | Width::Eight => unreachable!("no line asks for it"),
                 };
-                value(load(calls(layer), self.lent(), memory, address))
+                value(load(calls(layer), storage.lent(), memory, address))
             }
             Call::LoadBytes { layer, address, size, room } => {
                 output(room);
-                let number = calls(layer).load_bytes(self.lent(), out, memory, address, size);
+                let number = calls(layer).load_bytes(storage.lent(), out, memory, address, size);
                 format!("{number} {}", hex(out))
             }
             Call::LoadCString { layer, address, room } => {
                 output(room);
-                let Value { number, value } = calls(layer).load_c_string(self.lent(), out, memory, address);
+                let Value { number, value } = calls(layer).load_c_string(storage.lent(), out, memory, address);
                 format!("{number} {value} {}", hex(out))
             }
-            Call::FetchFlag { page } => value(own.fetch_flag(self.lent(), memory, page)),
-            Call::SetFlag { page, flag } => own.set_flag(self.lent(), memory, page, flag).to_string(),
-            Call::ClearFlag { page, flag } => own.clear_flag(self.lent(), memory, page, flag).to_string(),
+            Call::FetchFlag { page } => value(own.fetch_flag(storage.lent(), memory, page)),
+            Call::SetFlag { page, flag } => own.set_flag(storage.lent(), memory, page, flag).to_string(),
+            Call::ClearFlag { page, flag } => own.clear_flag(storage.lent(), memory, page, flag).to_string(),
             Call::Lr => format!("0 {}", own.lr(memory)),
             Call::SetLr(x) => {
-                self.memory = own.set_lr(memory, x);
-                "0".into()
+                self.numbers.memory = own.set_lr(memory, x);
+                done()
+            }
+            Call::Register(i) => value(archive::machine_register(numbers, i)),
+            Call::SetRegister(i, x) => {
+                let MachineAnswer { number, machine } = archive::machine_set_register(numbers, i, x);
+                self.numbers = machine;
+                number.to_string()
+            }
+            Call::Pc => format!("0 {}", archive::machine_pc(numbers)),
+            Call::UpdatePc(x) => {
+                self.numbers = archive::machine_update_pc(numbers, x);
+                done()
+            }
+            Call::CommitPc => {
+                self.numbers = archive::machine_commit_pc(numbers);
+                done()
+            }
+            Call::Version => format!("0 {}", archive::machine_version(numbers)),
+            Call::Cycles => format!("0 {}", archive::machine_cycles(numbers)),
+            Call::SetCycles(x) => {
+                self.numbers = archive::machine_set_cycles(numbers, x);
+                done()
+            }
+            Call::MaxCycles => format!("0 {}", archive::machine_max_cycles(numbers)),
+            Call::SetMaxCycles(x) => {
+                self.numbers = archive::machine_set_max_cycles(numbers, x);
+                done()
+            }
+            Call::LoadData { id, offset, length } => {
+                let (directory, bytes) = (&self.directory(sources, id)[..], &sources.bytes[..]);
+                let found = archive::find_data(Sources { directory, bytes }, id, offset, length);
+                let Found { number, start, count, full } = found;
+                format!("{number} {full} {}", hex(&bytes[start as usize..][..count as usize]))
+            }
+            Call::Track { start, length, id, offset } => {
+                archive::track_pages(storage.tracked(), memory, start, length, id, offset).to_string()
+            }
+            Call::Untrack { start, length } => {
+                archive::untrack_pages(storage.tracked(), memory, start, length).to_string()
+            }
+            Call::Context { address, id, offset, length, size_address } => {
+                let lent = Sources { directory: &self.directory(sources, id), bytes: &sources.bytes };
+                let tracked = self.storage.tracked();
+                let ContextStored { number, used, stored, full } =
+                    archive::context_store_bytes(tracked, lent, memory, address, id, offset, length, size_address);
+                self.numbers.memory.used = used;
+                format!("{number} {stored} {full}")
+            }
+            Call::Mark { id, offset, actions } => {
+                let actions = self.actions(&actions);
+                archive::mark_program(self.storage.tracked(), &actions, memory, id, offset).to_string()
             }
             Call::Dump => self.dump(out),
             Call::Raw => self.raw(),
-            Call::Register(_)
-            | Call::SetRegister(..)
-            | Call::Pc
-            | Call::UpdatePc(_)
-            | Call::CommitPc
-            | Call::Version
-            | Call::Cycles
-            | Call::SetCycles(_)
-            | Call::MaxCycles
-            | Call::SetMaxCycles(_)
-            | Call::LoadData { .. }
-            | Call::Track { .. }
-            | Call::Untrack { .. }
-            | Call::Context { .. }
-            | Call::Mark { .. }
-            | Call::Snapshot { .. }
-            | Call::Resume { .. } => return not_in_the_archive(),
+            Call::Snapshot { .. } | Call::Resume { .. } => return not_in_the_archive(),
         })
     }
 
-    /// By the port's own loads and flags. No page is tracked: the archive has no tracking.
+    /// By the port's own loads, flags and records.
     fn dump(&mut self, out: &mut Vec<u8>) -> String {
-        let (own, memory) = (self.own, self.memory);
+        let (own, memory) = (self.own(), self.numbers.memory);
+        let storage = &mut self.storage;
         let refused = |number| format!("{number} 0 0 0 0");
         let size = own.memory_size(memory);
         out.clear();
         out.resize(size as usize, UNWRITTEN);
-        match own.load_bytes(self.lent(), out, memory, 0, size) {
+        match own.load_bytes(storage.lent(), out, memory, 0, size) {
             0 => {}
             number => return refused(number),
         }
         let bytes = hash(out);
+        // of no page: the records' length, also where the memory has no page
+        match archive::untrack_pages(storage.tracked(), memory, 0, 0) {
+            0 => {}
+            number => return refused(number),
+        }
         out.clear();
+        let mut records = String::new();
         for page in 0..own.memory_pages(memory) {
-            match own.fetch_flag(self.lent(), memory, page) {
+            match own.fetch_flag(storage.lent(), memory, page) {
                 Value { number: 0, value } => out.push(value as u8),
                 Value { number, .. } => return refused(number),
             }
+            match archive::page_record(storage.tracked(), memory, page) {
+                Recorded { number: 0, tracked: 0, .. } => {}
+                Recorded { number: 0, id, offset, flag, .. } => records += &format!(" {page}:{id}:{offset}:{flag}"),
+                Recorded { number, .. } => return refused(number),
+            }
         }
-        format!("0 {size} {} {bytes} {}", own.lr(memory), hex(out))
+        format!("0 {size} {} {bytes} {}{records}", own.lr(memory), hex(out))
     }
 
     /// Of what is lent now, right or wrong.
     fn raw(&mut self) -> String {
-        let Lent { slots, area, .. } = self.lent();
-        let numbers: Vec<u8> = slots.iter().flat_map(|slot| slot.to_le_bytes()).collect();
-        format!("0 {} {} {}", hash(area), hash(&numbers), self.memory.used)
+        let Lent { slots, area, .. } = self.storage.lent();
+        let slots: Vec<u8> = slots.iter().flat_map(|slot| slot.to_le_bytes()).collect();
+        format!("0 {} {} {}", hash(area), hash(&slots), self.numbers.memory.used)
     }
 }
 
@@ -240,58 +345,67 @@ fn not_in_the_archive<T>() -> Result<T, Fault> {
 
 struct Port {
     machines: [Option<Machine>; 10],
+    sources: HeldSources,
     out: Vec<u8>,
 }
 
 impl Port {
-    /// The machine, and where its outputs are made.
-    fn machine(&mut self, machine: usize) -> Result<(&mut Machine, &mut Vec<u8>), Fault> {
-        match &mut self.machines[machine] {
-            None => Err(format!("no machine {machine}")),
-            Some(there) => Ok((there, &mut self.out)),
-        }
+    fn machine(&mut self, machine: usize) -> Result<&mut Machine, Fault> {
+        self.machines[machine].as_mut().ok_or_else(|| absent(machine))
     }
 
-    /// The storage has other contents before, so that what `fresh` leaves unwritten is seen.
-    fn fresh(&mut self, machine: usize, size: u64, slots: u64) -> Result<String, Fault> {
+    /// The storage has other contents before, so that what `fresh` leaves unwritten is seen. The memory's own `fresh`
+    /// is run beside the machine's, on storage of its own: it must answer and leave the same.
+    fn fresh(&mut self, machine: usize, size: u64, slots: u64, version: u32, max: u64) -> Result<String, Fault> {
         let area = Held::<u8>::fits(slots.saturating_mul(PAGE))?;
         let pages = (size / PAGE).min(MOST_PAGES) as usize;
         self.machines[machine] = None;
-        let mut made = Machine {
-            memory: Memory { size: 0, used: 0, reservation: 0 },
-            slots: Held::new(u16::from_le_bytes([BEFORE; 2]), pages),
-            flags: Held::new(BEFORE, pages),
-            words: Held::new(0, 3 * pages),
-            area: Held::new(BEFORE, area),
-            own: if machine % 2 == 0 { &WXORX } else { &SPARSE },
-        };
-        let Fresh { number, memory } = made.own.fresh(made.lent(), size);
+        let (mut storage, mut beside) = (Storage::new(pages, area), Storage::new(pages, area));
+        let MachineAnswer { number, machine: numbers } = archive::machine_fresh(storage.tracked(), size, version, max);
+        let made = Machine { numbers, storage, odd: machine % 2 == 1 };
+        let fresh = made.own().fresh(beside.lent(), size);
+        if fresh != (Fresh { number, memory: numbers.memory }) || !made.storage.same_memory(&beside) {
+            return Err("the memory of a fresh machine is not a fresh memory".into());
+        }
         if number == 0 {
-            self.machines[machine] = Some(Machine { memory, ..made });
+            self.machines[machine] = Some(made);
         }
         Ok(number.to_string())
     }
 }
 
+fn absent(machine: usize) -> Fault {
+    format!("no machine {machine}")
+}
+
 impl Host for Port {
     fn answer(&mut self, line: Line) -> Result<Option<String>, Fault> {
         Ok(Some(match line {
-            // nothing asks for sources or files yet
-            Line::Source { .. } | Line::Entry { .. } | Line::File { .. } => return Ok(None),
+            Line::Source { id, bytes } => {
+                let HeldSources { directory, bytes: held } = &mut self.sources;
+                directory.extend([id, held.len() as u64, bytes.len() as u64]);
+                held.extend(bytes);
+                return Ok(None);
+            }
+            Line::Entry { id, start, length } => {
+                self.sources.directory.extend([id, start, length]);
+                return Ok(None);
+            }
+            // nothing asks for files yet
+            Line::File { .. } => return Ok(None),
             Line::Lend { machine, lengths } => {
-                self.machine(machine)?.0.lend(lengths)?;
+                self.machine(machine)?.storage.lend(lengths)?;
                 return Ok(None);
             }
             Line::Slot { machine, page, number } => {
-                self.machine(machine)?.0.write_slot(page, number);
+                self.machine(machine)?.storage.write_slot(page, number);
                 return Ok(None);
             }
             Line::Used { machine, number } => {
-                self.machine(machine)?.0.memory.used = number;
+                self.machine(machine)?.numbers.memory.used = number;
                 return Ok(None);
             }
-            // nor for a version or a maximum of cycles
-            Line::Fresh { machine, size, slots, version: _, max: _ } => self.fresh(machine, size, slots)?,
+            Line::Fresh { machine, size, slots, version, max } => self.fresh(machine, size, slots, version, max)?,
             Line::RoundUp(x) => format!("0 {}", archive::round_page_up(x)),
             Line::RoundDown(x) => format!("0 {}", archive::round_page_down(x)),
             Line::PageIndices { address, size } => {
@@ -300,13 +414,15 @@ impl Host for Port {
             }
             Line::Show { .. } => return not_in_the_archive(),
             Line::Call { machine, call } => {
-                let (machine, out) = self.machine(machine)?;
-                machine.call(out, call)?
+                let Port { machines, sources, out } = self;
+                let there = machines[machine].as_mut().ok_or_else(|| absent(machine))?;
+                there.call(sources, out, call)?
             }
         }))
     }
 }
 
 fn main() -> std::process::ExitCode {
-    callscript::main_of(&mut Port { machines: [const { None }; 10], out: vec![] })
+    let machines = [const { None }; 10];
+    callscript::main_of(&mut Port { machines, sources: HeldSources::default(), out: vec![] })
 }

@@ -2,6 +2,8 @@
 //! given to the compiler under each of their names: ckb_vm_definitions, bytes, scroll, goblin_v023
 //! and goblin_v040.
 
+use std::borrow::Cow;
+
 // ---- ckb_vm_definitions: the constants of document 01, "Constants of our build"
 
 pub const RISCV_PAGE_SHIFTS: usize = 12;
@@ -32,26 +34,30 @@ pub mod registers {
 // ---- bytes
 
 #[derive(Clone, Debug, Default, PartialEq, Eq)]
-pub struct Bytes(Vec<u8>);
+pub struct Bytes(Cow<'static, [u8]>);
 
 impl Bytes {
     pub fn new() -> Self {
-        Bytes(Vec::new())
+        Bytes(Cow::Borrowed(&[]))
+    }
+    /// Copies nothing, as the crate's slices of one block don't.
+    pub fn from_static(bytes: &'static [u8]) -> Self {
+        Bytes(Cow::Borrowed(bytes))
     }
     pub fn slice(&self, range: std::ops::Range<usize>) -> Bytes {
-        Bytes(self.0[range].to_vec())
+        self.0[range].to_vec().into()
     }
 }
 
 impl From<Vec<u8>> for Bytes {
     fn from(v: Vec<u8>) -> Self {
-        Bytes(v)
+        Bytes(Cow::Owned(v))
     }
 }
 
 impl From<Bytes> for Vec<u8> {
     fn from(b: Bytes) -> Self {
-        b.0
+        b.0.into_owned()
     }
 }
 

@@ -3,6 +3,7 @@
 // Each hands on one call of a crate below with that call's promise. An outcome is handed out as its number (document 01's
 // table). A slice is a pointer and a length. A memory goes in as two numbers: its size (`extent`), and last of all its slots in
 // use. A store hands back the slots then in use, and nothing else of a memory changes. The reservation stays with the host.
+// A machine goes in by value and comes back whole. A call that looks at records is lent them beside the memory's storage.
 ghost use mathlib.Core.Path.{_≡_};
 ghost use Prim.Native.Nat.{_/_};
 ghost use lib.ListN.{length};
@@ -15,9 +16,18 @@ ghost use Rattle.memory.specs.Operations.{does};
 ghost use Rattle.memory.specs.Sparse.{fetchFlag, setFlag, clearFlag, checkPermission, setDirty, fillPageData, loadWide, loadBytes, loadCString, storeByte, storeBytes, storeWide};
 ghost use Rattle.memory.specs.WXorX as wx;
 ghost use Rattle.memory.specs.Answers.{wrote, laid};
-ghost use Rattle.host.specs.Handed.{lent, left, handed, handedFresh, handedValue, handedIndices};
+ghost use Rattle.machine.specs.Numbers.{numbersOf, machineOf, changed, register, setRegister, updatePc, commitPc, setCycles, setMaxCycles};
+ghost use Rattle.machine.specs.Fresh as machines;
+ghost use Rattle.snapshot.specs.Sources.{findData, placed};
+ghost use Rattle.snapshot.specs.Operations as tracking;
+ghost use Rattle.snapshot.specs.Tracking.{trackPages, untrackPages, markProgram, pageRecord};
+ghost use Rattle.snapshot.specs.Tracking as context;
+ghost use Rattle.host.specs.Handed.{lent, left, handed, handedFresh, handedValue, handedIndices, handedMachine, handedFound, lentTracked, leftContext, handedContext, shown, handedRecord, shownOf};
+use machine::Machine;
 use memory::Memory;
 use outcome::Outcome;
+use snapshot::records::Tracking;
+use snapshot::sources::Place;
 
 // A number of document 01's table, and the slots in use.
 #[repr(C)]
@@ -46,6 +56,41 @@ pub struct Indices {
     pub number: u32,
     pub first: u64,
     pub last: u64,
+}
+
+// A number of document 01's table, and a machine.
+#[repr(C)]
+pub struct MachineAnswer {
+    pub number: u32,
+    pub machine: Machine,
+}
+
+// A number of document 01's table; where data starts in the source bytes, how many bytes it has, and the full length that remains.
+#[repr(C)]
+pub struct Found {
+    pub number: u32,
+    pub start: u64,
+    pub count: u64,
+    pub full: u64,
+}
+
+// A number of document 01's table, the slots in use, the bytes stored, and the full length that remained.
+#[repr(C)]
+pub struct ContextStored {
+    pub number: u32,
+    pub used: u64,
+    pub stored: u64,
+    pub full: u64,
+}
+
+// A number of document 01's table; 1 for a page that is tracked, and then id, offset and flag; 0 for each otherwise.
+#[repr(C)]
+pub struct Recorded {
+    pub number: u32,
+    pub tracked: u32,
+    pub id: u64,
+    pub offset: u64,
+    pub flag: u32,
 }
 
 fn answer_of(answer: memory::Answer) -> Stored
@@ -88,6 +133,73 @@ fn indices_of(answer: memory::Indices) -> Indices
         number: outcome::number(outcome),
         first: answer.first,
         last: answer.last,
+    }
+}
+
+fn machine_of(answer: machine::Answer) -> MachineAnswer
+    ensures { λ r. ⌜ (r .number ≡ numberOf (answer .outcome)) × (r .machine ≡ answer .machine) ⌝ }
+{
+    let outcome = answer.outcome;
+    let machine = answer.machine;
+    MachineAnswer {
+        number: outcome::number(outcome),
+        machine,
+    }
+}
+
+fn found_of(place: Place) -> Found
+    ensures { λ r. ⌜ handedFound r ≡ placed place ⌝ }
+{
+    let Place::Found(start, count, full) = place else {
+        return Found {
+            number: outcome::number(Outcome::SnapshotDataLoadError),
+            start: 0,
+            count: 0,
+            full: 0,
+        };
+    };
+    Found {
+        number: outcome::number(Outcome::Done),
+        start: start as u64,
+        count: count as u64,
+        full,
+    }
+}
+
+fn context_of(answer: snapshot::context::Stored) -> ContextStored
+    ensures { λ r. ⌜ (r .number ≡ numberOf (answer .outcome)) × (r .used ≡ answer .memory .used) × (r .stored ≡ answer .stored) × (r .full ≡ answer .full) ⌝ }
+{
+    let outcome = answer.outcome;
+    let memory = answer.memory;
+    ContextStored {
+        number: outcome::number(outcome),
+        used: memory.used,
+        stored: answer.stored,
+        full: answer.full,
+    }
+}
+
+fn record_of(answer: snapshot::records::Recorded) -> Recorded
+    ensures { λ r. ⌜ handedRecord r ≡ shownOf (numberOf (answer .outcome)) (answer .entry .tracking) ⌝ }
+{
+    let outcome = answer.outcome;
+    let entry = answer.entry;
+    let tracking = entry.tracking;
+    let Tracking::Tracked(id, offset, flag) = tracking else {
+        return Recorded {
+            number: outcome::number(outcome),
+            tracked: 0,
+            id: 0,
+            offset: 0,
+            flag: 0,
+        };
+    };
+    Recorded {
+        number: outcome::number(outcome),
+        tracked: 1,
+        id,
+        offset,
+        flag: flag as u32,
     }
 }
 
@@ -989,4 +1101,258 @@ pub extern "C" fn latchpebble_wxorx_set_lr(memory: Memory, value: u64) -> Memory
     ensures { λ r. ⌜ r ≡ reserved memory value ⌝ }
 {
     memory::wxorx::set_lr(memory, value)
+}
+
+#[no_mangle]
+pub extern "C" fn latchpebble_machine_fresh(
+    slots: &mut [u16],
+    flags: &mut [u8],
+    area: &mut [u8],
+    records: &mut [u64],
+    size: u64,
+    version: u32,
+    maximum: u64,
+) -> MachineAnswer
+    ensures { λ r. ⌜ handedMachine r (now (slots .exit)) (now (flags .exit)) (now (area .exit)) (now (records .exit)) ≡ machines.fresh (now (slots .entry)) (now (flags .entry)) (now (area .entry)) (now (records .entry)) size version maximum ⌝ }
+{
+    machine_of(machine::fresh(slots, flags, area, records, size, version, maximum))
+}
+
+#[no_mangle]
+pub extern "C" fn latchpebble_machine_register(machine: Machine, i: u64) -> Value
+    ensures { λ r. ⌜ handedValue r ≡ register i (numbersOf machine) ⌝ }
+{
+    value_of(machine.register(i))
+}
+
+#[no_mangle]
+pub extern "C" fn latchpebble_machine_set_register(
+    machine: Machine,
+    i: u64,
+    value: u64,
+) -> MachineAnswer
+    ensures { λ r. ⌜ (r .number, r .machine) ≡ changed (setRegister i value (numbersOf machine)) (machine .memory) ⌝ }
+{
+    machine_of(machine.set_register(i, value))
+}
+
+#[no_mangle]
+pub extern "C" fn latchpebble_machine_pc(machine: Machine) -> u64
+    ensures { λ r. ⌜ r ≡ numbersOf machine .pc ⌝ }
+{
+    machine.pc()
+}
+
+#[no_mangle]
+pub extern "C" fn latchpebble_machine_update_pc(machine: Machine, pc: u64) -> Machine
+    ensures { λ r. ⌜ r ≡ machineOf (updatePc pc (numbersOf machine)) (machine .memory) ⌝ }
+{
+    machine.update_pc(pc)
+}
+
+#[no_mangle]
+pub extern "C" fn latchpebble_machine_commit_pc(machine: Machine) -> Machine
+    ensures { λ r. ⌜ r ≡ machineOf (commitPc (numbersOf machine)) (machine .memory) ⌝ }
+{
+    machine.commit_pc()
+}
+
+#[no_mangle]
+pub extern "C" fn latchpebble_machine_version(machine: Machine) -> u32
+    ensures { λ r. ⌜ r ≡ numbersOf machine .version ⌝ }
+{
+    machine.version()
+}
+
+#[no_mangle]
+pub extern "C" fn latchpebble_machine_cycles(machine: Machine) -> u64
+    ensures { λ r. ⌜ r ≡ numbersOf machine .cycles ⌝ }
+{
+    machine.cycles()
+}
+
+#[no_mangle]
+pub extern "C" fn latchpebble_machine_set_cycles(machine: Machine, cycles: u64) -> Machine
+    ensures { λ r. ⌜ r ≡ machineOf (setCycles cycles (numbersOf machine)) (machine .memory) ⌝ }
+{
+    machine.set_cycles(cycles)
+}
+
+#[no_mangle]
+pub extern "C" fn latchpebble_machine_max_cycles(machine: Machine) -> u64
+    ensures { λ r. ⌜ r ≡ numbersOf machine .max-cycles ⌝ }
+{
+    machine.max_cycles()
+}
+
+#[no_mangle]
+pub extern "C" fn latchpebble_machine_set_max_cycles(machine: Machine, cycles: u64) -> Machine
+    ensures { λ r. ⌜ r ≡ machineOf (setMaxCycles cycles (numbersOf machine)) (machine .memory) ⌝ }
+{
+    machine.set_max_cycles(cycles)
+}
+
+#[no_mangle]
+pub extern "C" fn latchpebble_find_data(
+    directory: &[u64],
+    sources: &[u8],
+    id: u64,
+    offset: u64,
+    size: u64,
+) -> Found
+    ensures { λ r. ⌜ handedFound r ≡ findData (now (directory .entry)) (length (now (sources .entry))) id offset size ⌝ }
+{
+    found_of(snapshot::sources::find_data(directory, sources, id, offset, size))
+}
+
+#[no_mangle]
+pub extern "C" fn latchpebble_track_pages(
+    slots: &[u16],
+    flags: &mut [u8],
+    area: &[u8],
+    records: &mut [u64],
+    extent: u64,
+    start: u64,
+    size: u64,
+    id: u64,
+    offset: u64,
+    used: u64,
+) -> u32
+    ensures { λ r. ⌜ (r, lentTracked (now (slots .entry)) (now (flags .exit)) (now (area .entry)) (now (records .exit)) extent used) ≡ run tracking.does (trackPages start size id offset) (lentTracked (now (slots .entry)) (now (flags .entry)) (now (area .entry)) (now (records .entry)) extent used) ⌝ }
+{
+    let memory = Memory {
+        size: extent,
+        used,
+        reservation: 0,
+    };
+    outcome::number(snapshot::context::track_pages(
+        slots,
+        flags,
+        area,
+        records,
+        memory,
+        start,
+        size,
+        id,
+        offset,
+    ))
+}
+
+#[no_mangle]
+pub extern "C" fn latchpebble_untrack_pages(
+    slots: &[u16],
+    flags: &mut [u8],
+    area: &[u8],
+    records: &mut [u64],
+    extent: u64,
+    start: u64,
+    size: u64,
+    used: u64,
+) -> u32
+    ensures { λ r. ⌜ (r, lentTracked (now (slots .entry)) (now (flags .exit)) (now (area .entry)) (now (records .exit)) extent used) ≡ run tracking.does (untrackPages start size) (lentTracked (now (slots .entry)) (now (flags .entry)) (now (area .entry)) (now (records .entry)) extent used) ⌝ }
+{
+    let memory = Memory {
+        size: extent,
+        used,
+        reservation: 0,
+    };
+    outcome::number(snapshot::context::untrack_pages(
+        slots,
+        flags,
+        area,
+        records,
+        memory,
+        start,
+        size,
+    ))
+}
+
+#[no_mangle]
+pub extern "C" fn latchpebble_context_store_bytes(
+    slots: &mut [u16],
+    flags: &mut [u8],
+    area: &mut [u8],
+    records: &mut [u64],
+    directory: &[u64],
+    sources: &[u8],
+    extent: u64,
+    address: u64,
+    id: u64,
+    offset: u64,
+    size: u64,
+    place: u64,
+    used: u64,
+) -> ContextStored
+    ensures { λ r. ⌜ handedContext r (now (slots .exit)) (now (flags .exit)) (now (area .exit)) (now (records .exit)) ≡ leftContext (run tracking.does (context.storeBytes (now (directory .entry)) (now (sources .entry)) address id offset size place) (lentTracked (now (slots .entry)) (now (flags .entry)) (now (area .entry)) (now (records .entry)) extent used)) ⌝ }
+{
+    let memory = Memory {
+        size: extent,
+        used,
+        reservation: 0,
+    };
+    context_of(snapshot::context::store_bytes(
+        slots,
+        flags,
+        area,
+        records,
+        directory,
+        sources,
+        memory,
+        address,
+        id,
+        offset,
+        size,
+        place,
+    ))
+}
+
+#[no_mangle]
+pub extern "C" fn latchpebble_mark_program(
+    slots: &[u16],
+    flags: &mut [u8],
+    area: &[u8],
+    records: &mut [u64],
+    actions: &[u64],
+    extent: u64,
+    id: u64,
+    offset: u64,
+    used: u64,
+) -> u32
+    ensures { λ r. ⌜ (r, lentTracked (now (slots .entry)) (now (flags .exit)) (now (area .entry)) (now (records .exit)) extent used) ≡ run tracking.does (markProgram (now (actions .entry)) id offset) (lentTracked (now (slots .entry)) (now (flags .entry)) (now (area .entry)) (now (records .entry)) extent used) ⌝ }
+{
+    let memory = Memory {
+        size: extent,
+        used,
+        reservation: 0,
+    };
+    outcome::number(snapshot::context::mark_program(
+        slots,
+        flags,
+        area,
+        records,
+        actions,
+        memory,
+        id,
+        offset,
+    ))
+}
+
+#[no_mangle]
+pub extern "C" fn latchpebble_page_record(
+    slots: &[u16],
+    flags: &[u8],
+    area: &[u8],
+    records: &[u64],
+    extent: u64,
+    page: u64,
+    used: u64,
+) -> Recorded
+    ensures { λ r. ⌜ (handedRecord r, lentTracked (now (slots .entry)) (now (flags .entry)) (now (area .entry)) (now (records .entry)) extent used) ≡ shown (run tracking.does (pageRecord page) (lentTracked (now (slots .entry)) (now (flags .entry)) (now (area .entry)) (now (records .entry)) extent used)) ⌝ }
+{
+    let memory = Memory {
+        size: extent,
+        used,
+        reservation: 0,
+    };
+    record_of(snapshot::records::page_record(slots, flags, area, records, memory, page))
 }

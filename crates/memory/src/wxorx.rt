@@ -255,8 +255,8 @@ pub fn store_byte(
     Answer { outcome, memory }
 }
 
-// Stores bytes, on any pages.
-fn store_over(
+// Stores bytes, page by page: store_bytes without its short path.
+pub fn store_over(
     slots: &mut [u16],
     flags: &mut [u8],
     area: &mut [u8],
@@ -342,6 +342,20 @@ fn store_wide(
     let mut bytes = [0u8; 8];
     words::write_le(&mut bytes, 0, n, value);
     store_over(slots, flags, area, &bytes[..n], memory, address)
+}
+
+// Stores the 8 bytes of a number, page by page: store64 without its short path.
+pub fn store64_over(
+    slots: &mut [u16],
+    flags: &mut [u8],
+    area: &mut [u8],
+    memory: Memory,
+    address: u64,
+    value: u64,
+) -> Answer
+    ensures { λ r. ⌜ answered r (now (slots .exit)) (now (flags .exit)) (now (area .exit)) ≡ run does (storeWide 8 address value) (stateOf (now (slots .entry)) (now (flags .entry)) (now (area .entry)) memory) ⌝ }
+{
+    store_wide(slots, flags, area, memory, address, value, 8)
 }
 
 // Stores the low byte of a number.

@@ -61,7 +61,7 @@ fn store_tracked(
 ) -> Answer
     ensures { λ r. ⌜ answered r (now (slots .exit)) (now (flags .exit)) (now (area .exit)) (now (records .exit)) ≡ run does (storeTracked address id offset (now (bytes .entry))) (trackedOf (now (slots .entry)) (now (flags .entry)) (now (area .entry)) (now (records .entry)) memory) ⌝ }
 {
-    let answer = wxorx::store_bytes(slots, flags, area, bytes, memory, address);
+    let answer = wxorx::store_over(slots, flags, area, bytes, memory, address);
     let outcome = answer.outcome;
     let next = answer.memory;
     if outcome::is_done(outcome) {
@@ -126,7 +126,7 @@ fn store_data(
 ) -> Answer
     ensures { λ r. ⌜ answered r (now (slots .exit)) (now (flags .exit)) (now (area .exit)) (now (records .exit)) ≡ run does (storeData place full address id offset (now (bytes .entry))) (trackedOf (now (slots .entry)) (now (flags .entry)) (now (area .entry)) (now (records .entry)) memory) ⌝ }
 {
-    let answer = wxorx::store64(slots, flags, area, memory, place, full);
+    let answer = wxorx::store64_over(slots, flags, area, memory, place, full);
     let outcome = answer.outcome;
     let next = answer.memory;
     if outcome::is_done(outcome) {

@@ -4,8 +4,8 @@ use Rattle.snapshot.proofs.ContextSteps.{length-stored, length-refused}
 use Rattle.snapshot.proofs.context.store_data.Statement.{statement}
 use Rattle.snapshot.proofs.context.store_data.Tie as tie
 
-store64-requires : tie.Need-store64-requires
-store64-requires c κs = search needs
+store64-over-requires : tie.Need-store64-over-requires
+store64-over-requires c κs = search needs
 
 is-done-requires : tie.Need-is-done-requires
 is-done-requires c κs = search needs
@@ -44,7 +44,7 @@ pub store-data-spec : {M : Type 1} → statement M
 store-data-spec =
     tie.close
     (tie.spec
-    store64-requires
+    store64-over-requires
     is-done-requires
     replace-requires
     same-length

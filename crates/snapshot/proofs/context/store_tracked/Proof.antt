@@ -4,8 +4,8 @@ use Rattle.snapshot.proofs.ContextSteps.{bytes-stored, bytes-refused}
 use Rattle.snapshot.proofs.context.store_tracked.Statement.{statement}
 use Rattle.snapshot.proofs.context.store_tracked.Tie as tie
 
-store-bytes-requires : tie.Need-store-bytes-requires
-store-bytes-requires c κs = search needs
+store-over-requires : tie.Need-store-over-requires
+store-over-requires c κs = search needs
 
 is-done-requires : tie.Need-is-done-requires
 is-done-requires c κs = search needs
@@ -44,7 +44,7 @@ pub store-tracked-spec : {M : Type 1} → statement M
 store-tracked-spec =
     tie.close
     (tie.spec
-    store-bytes-requires
+    store-over-requires
     is-done-requires
     track-pages-requires
     same-length

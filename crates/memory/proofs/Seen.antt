@@ -4,7 +4,7 @@ use mathlib.Core.Path.{_≡_, refl, sym, ap, ap₂, _∙_, fun-ext}
 use mathlib.Core.Bool.{Bool, true, false, cond}
 use mathlib.Core.List.{List, [], _∷_}
 use mathlib.Core.Logic.{_≢_}
-use Prim.Native.Nat.{ℕ, zero, suc, _+_, _/_, _%_, _≤_, _<_}
+use Prim.Native.Nat.{ℕ, _+_, _/_, _%_, _≤_, _<_}
 use native.Mathlib.Omega.{arith}
 use lib.ListN.{length, getD, set, length-take}
 use lib.Seq.{getD-set-same, getD-set-other}
@@ -13,6 +13,7 @@ use lib.Bits.{bitOr, bitAnd}
 use borrow.Author.Tests.{lt-ltb, le-ltb, eqb-true, eqb-false, ltb-true}
 use Rattle.bits.specs.Rounding.{pageSize}
 use Rattle.words.specs.Bytes.{filled}
+use Rattle.words.proofs.Filled.{filled-zero}
 use Rattle.program.specs.Program.{run}
 use Rattle.program.proofs.Like.{Like, commutes, alike}
 use Rattle.program.proofs.Keeps.{kept}
@@ -36,13 +37,6 @@ set-at-one l p v h =
     cases (λ (x : ℕ). getD (set l p v) q 0 ≡ x) (eqb q p) _ _
     (λ e. ap (λ (k : ℕ). getD (set l p v) k 0) (eqb-true q p e) ∙ getD-set-same l p v 0 h)
     (λ e. getD-set-other l p q v 0 (eqb-false q p e))
-
--- a list of zeros
-filled-zero : (n p : ℕ) → getD (filled n 0) p 0 ≡ 0
-unfolding filled
-filled-zero zero p = refl
-filled-zero (suc n) zero = refl
-filled-zero (suc n) (suc p) = filled-zero n p
 
 -- ---- one page
 

@@ -237,7 +237,7 @@ pub write-formed : (s : State) (p at : ℕ) (bytes : List ℕ) → WellFormed s 
 unfolding writePage
 write-formed s p at bytes w = formed-same s (writePage s p at bytes) (write-lengths s p at bytes) refl refl w
 
-flag-formed : (s : State) (p f : ℕ) → WellFormed s → WellFormed (stateOf (s .slots) (set (s .flags) p f) (s .area) (s .memory))
+pub flag-formed : (s : State) (p f : ℕ) → WellFormed s → WellFormed (stateOf (s .slots) (set (s .flags) p f) (s .area) (s .memory))
 flag-formed s p f w = formed-same s _ (flag-lengths s p f) refl refl w
 
 pub flag-whole : (s : State) (p f : ℕ) → Whole s → Whole (stateOf (s .slots) (set (s .flags) p f) (s .area) (s .memory))

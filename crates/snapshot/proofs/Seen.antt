@@ -4,7 +4,7 @@ use mathlib.Core.Path.{_≡_, refl, sym, ap, ap₂, _∙_, fun-ext}
 use mathlib.Core.Bool.{Bool, true, false, cond}
 use mathlib.Core.List.{List, [], _∷_}
 use mathlib.Core.Logic.{_≢_}
-use Prim.Native.Nat.{ℕ, zero, suc, _+_, _*_, _/_, _%_, _<_}
+use Prim.Native.Nat.{ℕ, _+_, _*_, _/_, _%_, _<_}
 use native.Mathlib.Decide.{ℕ-discrete}
 use native.Mathlib.Omega.{arith}
 use lib.ListN.{length, getD, set, length-set}
@@ -14,6 +14,7 @@ use lib.Bits.{bitAnd, bitOr, and-le-r}
 use borrow.Author.Tests.{lt-ltb, le-ltb, eq-eqb, ne-eqb, eqb-true, eqb-false, ltb-true}
 use Rattle.bits.specs.Rounding.{pageSize}
 use Rattle.words.specs.Bytes.{filled}
+use Rattle.words.proofs.Filled.{filled-zero}
 use Rattle.program.specs.Program.{run}
 use Rattle.program.specs.Layers.{low, own}
 use Rattle.program.proofs.Like.{Like, commutes, alike, like-beside}
@@ -298,12 +299,6 @@ equal-calls (g ∷ gs) k m n wm wn e =
 -- its memory blank, and every page untracked
 abbrev pub blank : ℕ → View
 blank size = record { memory = memory-laws.blank size; entry = λ p. tracking.Untracked }
-
-filled-zero : (n i : ℕ) → getD (filled n 0) i 0 ≡ 0
-unfolding filled
-filled-zero zero i = refl
-filled-zero (suc n) zero = refl
-filled-zero (suc n) (suc i) = filled-zero n i
 
 untracked : (flag n p : ℕ) → masked flag (recordAt (filled n 0) p) ≡ tracking.Untracked
 unfolding masked recordOf

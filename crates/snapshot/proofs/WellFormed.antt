@@ -6,7 +6,7 @@ use mathlib.Core.List.{List, [], _∷_}
 use mathlib.Core.Logic.{_≢_}
 use Prim.Native.Nat.{ℕ, _+_, _*_, _/_, _≤_}
 use native.Mathlib.Omega.{arith}
-use lib.ListN.{length, set, length-set}
+use lib.ListN.{length, length-set}
 use lib.Dec.{ltb, leb}
 use borrow.Author.Tests.{eq-eqb, eqb-true}
 use Rattle.bits.specs.Rounding.{pageSize}
@@ -128,14 +128,8 @@ unfolding fitsAll recordsFit
 lengths-reply m w =
     rw (fits-yes _ _ _ _ (w .memory .fit), eq-eqb (length (m .1)) (recordWords * length (m .0 .flags)) (w .records-are))
 
--- the memory of a machine with a page marked
-flag-formed : (s : State) (p f : ℕ) → memory.WellFormed s
-    → memory.WellFormed (stateOf (s .slots) (set (s .flags) p f) (s .area) (s .memory))
-flag-formed s p f w =
-    record { fit = rw (length-set (s .flags) p f) (w .fit); held = w .held; apart = w .apart; counted = w .counted }
-
 pub marked-formed : (m : Tracked) → WellFormed m → (p f : ℕ) (t : Tracking) → WellFormed (marked m p f t)
-marked-formed m w p f t = formed-same m _ (marked-lengths m p f t) (flag-formed (m .0) p f (w .memory)) w
+marked-formed m w p f t = formed-same m _ (marked-lengths m p f t) (memory-laws.flag-formed (m .0) p f (w .memory)) w
 
 pub marked-whole : (m : Tracked) → Whole m → (p f : ℕ) (t : Tracking) → Whole (marked m p f t)
 marked-whole m w p f t = whole-same m _ (marked-lengths m p f t) (memory-laws.flag-whole (m .0) p f (w .memory)) w

@@ -1,6 +1,6 @@
 -- Laws of `filled`: its length, its bytes, and a turn and the end of filling.
 use mathlib.Core.Path.{_≡_, refl, _∙_}
-use Prim.Native.Nat.{ℕ, _+_, _≤_, _<_}
+use Prim.Native.Nat.{ℕ, zero, suc, _+_, _≤_, _<_}
 use native.Mathlib.Omega.{arith}
 use mathlib.Core.List.{List, _++_, append-nil}
 use borrow.Author.Fill.{fill-more}
@@ -15,6 +15,13 @@ length-filled n v = length-replicate n v
 pub filled-at : (n v i : ℕ) → i < n → getD (filled n v) i 0 ≡ v
 unfolding filled
 filled-at n v i h = getD-replicate n i v 0 h
+
+-- a list of zeros, past its end too
+pub filled-zero : (n i : ℕ) → getD (filled n 0) i 0 ≡ 0
+unfolding filled
+filled-zero zero i = refl
+filled-zero (suc n) zero = refl
+filled-zero (suc n) (suc i) = filled-zero n i
 
 -- before the first turn of filling
 pub filled-none : (d : List ℕ) (v : ℕ) → d ≡ filled 0 v ++ d

@@ -10,6 +10,8 @@ pub mod ContextStore
 pub mod MarkProgram
 -- no second outcome fits a promise:
 pub mod Once
+-- the calls as calls on the whole machine:
+pub mod OnMachine
 -- what holds across calls: well-formed storage, what is seen, and which numbers are answered:
 pub mod WellFormed
 pub mod Seen

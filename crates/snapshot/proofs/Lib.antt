@@ -16,5 +16,6 @@ pub mod OnMachine
 pub mod WellFormed
 pub mod Seen
 pub mod Numbers
+pub mod Told
 -- document 01's table:
 pub mod Table

@@ -12,6 +12,8 @@ use Rattle.memory.specs.Sparse as sparse
 use Rattle.memory.specs.Calls as memory
 use Rattle.machine.specs.Fresh.{Tracked, LentMachine}
 use Rattle.machine.specs.Operations as machine
+use Rattle.snapshot.specs.declared.records.Tracking.{Tracking}
+use Rattle.snapshot.specs.declared.records.Tracking.the-variants.{Untracked}
 use Rattle.snapshot.specs.Sources.{Data, findData, dataOf}
 use Rattle.snapshot.specs.Operations.{MachineCall, machineDoes, onMemory}
 use Rattle.snapshot.specs.Tracking.{Stored, Recorded, trackPages, untrackPages, storeBytes, markProgram, pageRecord}
@@ -91,9 +93,44 @@ abbrev pub AllCareful : List Given → Type 0
 AllCareful [] = Unit {0}
 AllCareful (g ∷ gs) = Careful g × AllCareful gs
 
--- a call with its answer
-pub data Told : Type 0 where
-  told : (g : Given) → AnswerTo g → Told
+-- an answer as a line: a number of document 01's table, the values, the bytes that are handed back or laid into an output, and
+-- what is tracked of a page. A call that answers a value alone is done
+pub record Told : Type 0 where
+  pub number : ℕ
+  pub values : List ℕ
+  pub parts : List (List ℕ)
+  pub tracking : Tracking
+
+abbrev pub line : ℕ → List ℕ → List (List ℕ) → Told
+line n values parts = record { number = n; values = values; parts = parts; tracking = Untracked }
+
+-- a machine's own numbers
+abbrev pub saidNumbers : (o : machine.Op) → machine.Reply o → Told
+saidNumbers (machine.register? i) v = line (v .number) (v .value ∷ []) []
+saidNumbers (machine.register! i x) n = line n [] []
+saidNumbers machine.pc? x = line 0 (x ∷ []) []
+saidNumbers (machine.pc! x) n = line n [] []
+saidNumbers machine.commit! n = line n [] []
+saidNumbers machine.version? x = line 0 (x ∷ []) []
+saidNumbers machine.cycles? x = line 0 (x ∷ []) []
+saidNumbers (machine.cycles! x) n = line n [] []
+saidNumbers machine.max-cycles? x = line 0 (x ∷ []) []
+saidNumbers (machine.max-cycles! x) n = line n [] []
+
+abbrev pub said : (c : Named) → Answers c → Told
+said (on-memory c) x = line (memory.said c x .number) (memory.said c x .value ∷ []) (memory.said c x .bytes ∷ [])
+said (on-numbers o) x = saidNumbers o x
+said (load-data directory sources id offset wanted) d =
+    line (d .place .number) (d .place .start ∷ d .place .count ∷ d .place .full ∷ []) (d .bytes ∷ [])
+said (track-pages start size id offset) n = line n [] []
+said (untrack-pages start size) n = line n [] []
+said (store-bytes directory sources a id offset wanted sizeAt) x = line (x .number) (x .stored ∷ x .full ∷ []) []
+said (mark-program actions id offset) n = line n [] []
+said (page-record p) x = record { number = x .number; values = x .page ∷ []; parts = []; tracking = x .tracking }
+
+abbrev pub told : (g : Given) → AnswerTo g → Told
+told (named c) x = said c x
+told (clear-flag p f) n = line n [] []
 
 -- what calls answer one after another, and what they leave
 unfoldable pub answers : List Given → LentMachine → List Told

@@ -277,7 +277,7 @@ fn init_pages(
 }
 
 // Tracks the pages of all actions, in turn.
-fn init_all(
+fn mark_actions(
     slots: &[u16],
     flags: &mut [u8],
     area: &[u8],
@@ -316,7 +316,7 @@ pub fn mark_program(
     ensures { λ r. ⌜ (numberOf r, trackedOf (now (slots .entry)) (now (flags .exit)) (now (area .entry)) (now (records .exit)) memory) ≡ run does (markProgram (now (actions .entry)) id offset) (trackedOf (now (slots .entry)) (now (flags .entry)) (now (area .entry)) (now (records .entry)) memory) ⌝ }
 {
     if super::lengths_fit(slots.len(), flags.len(), area.len(), records.len(), memory) {
-        return init_all(slots, flags, area, records, actions, memory, id, offset);
+        return mark_actions(slots, flags, area, records, actions, memory, id, offset);
     }
     Outcome::BadStorage
 }

@@ -8,8 +8,8 @@ use Rattle.snapshot.proofs.context.mark_program.Tie as tie
 lengths-fit-requires : tie.Need-lengths-fit-requires
 lengths-fit-requires c κs = search needs
 
-init-all-requires : tie.Need-init-all-requires
-init-all-requires c κs = search needs
+mark-actions-requires : tie.Need-mark-actions-requires
+mark-actions-requires c κs = search needs
 
 same-length : tie.Need-same-length
 same-length c = search needs
@@ -28,4 +28,4 @@ returns-2 c = search (needs, fit-not (λ n. n))
 pub mark-program-spec : {M : Type 1} → statement M
 mark-program-spec =
     tie.close
-    (tie.spec lengths-fit-requires init-all-requires same-length same-length-2 returns returns-2)
+    (tie.spec lengths-fit-requires mark-actions-requires same-length same-length-2 returns returns-2)

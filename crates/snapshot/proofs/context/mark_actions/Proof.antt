@@ -2,8 +2,8 @@
 use Prim.Native.Nat.{_-_}
 use borrow.Author.Needs.{needs}
 use Rattle.snapshot.proofs.MarkProgram.{Marking, marking-first, marking-next, marking-stop, marked-all}
-use Rattle.snapshot.proofs.context.init_all.Statement.{statement}
-use Rattle.snapshot.proofs.context.init_all.Tie as tie
+use Rattle.snapshot.proofs.context.mark_actions.Statement.{statement}
+use Rattle.snapshot.proofs.context.mark_actions.Tie as tie
 
 abbrev Inv-loop : tie.InvT-loop
 Inv-loop slots flags₀ area records₀ actions memory id offset count i₀ flags records i =
@@ -51,8 +51,8 @@ same-length-4 c = search needs
 returns-2 : tie.Need-returns-2 Inv-loop μ-loop
 returns-2 c = search (needs, marked-all)
 
-pub init-all-spec : {M : Type 1} → statement M
-init-all-spec =
+pub mark-actions-spec : {M : Type 1} → statement M
+mark-actions-spec =
     tie.close
     (tie.spec
     Inv-loop

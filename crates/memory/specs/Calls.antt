@@ -13,7 +13,8 @@ pub data Layer : Type 0 where
   on-sparse : Layer
   on-wxorx : Layer
 
--- every public call but fresh and clear_flag; n is a width in bytes
+-- every public call on a memory but fresh and clear_flag; n is a width in bytes. store_over and store64_over mean what store-bytes
+-- and store-wide do; get_page_indices and storage_fits are lent no memory
 pub data Named : Type 0 where
   init-pages : Layer → ℕ → ℕ → ℕ → ℕ → List ℕ → Named
   fill-page-data : ℕ → ℕ → ℕ → List ℕ → Named

@@ -18,7 +18,8 @@ use Rattle.snapshot.specs.Sources.{Data, findData, dataOf}
 use Rattle.snapshot.specs.Operations.{MachineCall, machineDoes, onMemory}
 use Rattle.snapshot.specs.Tracking.{Stored, Recorded, trackPages, untrackPages, storeBytes, markProgram, pageRecord}
 
--- every public call but fresh and clear_flag
+-- every public call on a machine but fresh and clear_flag. A call on the machine's memory is made by way of `memory` and
+-- `with_memory`; records_fit and lengths_fit ask lengths alone
 pub data Named : Type 0 where
   -- on the machine's memory, and on its numbers
   on-memory : memory.Named → Named

@@ -63,7 +63,7 @@ untrackPages start size = fitting (λ n. n) (untrack start size)
 
 -- ---- context store
 
--- a number of document 01's table, "the bytes stored", and the full length; "A refused call gives 0 for each number"
+-- a number of document 01's table, the bytes stored, and the full length; "A refused call gives 0 for each number"
 pub record Stored : Type 0 where
   pub number : ℕ
   pub stored : ℕ

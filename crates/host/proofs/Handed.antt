@@ -16,15 +16,18 @@ use Rattle.machine.specs.declared.Answer as machine-answer
 use Rattle.machine.specs.Numbers.{numbersOf}
 use Rattle.machine.specs.Fresh.{Tracked, LentMachine}
 use Rattle.machine.specs.Fresh as machine
-use Rattle.snapshot.specs.declared.context.Stored as context-stored
-use Rattle.snapshot.specs.declared.records.Recorded as page-recorded
-use Rattle.snapshot.specs.declared.records.Tracking.{Tracking}
-use Rattle.snapshot.specs.declared.records.Tracking.the-variants as tracking
-use Rattle.snapshot.specs.declared.sources.Place.{Place}
-use Rattle.snapshot.specs.declared.sources.Place.the-variants as place
-use Rattle.snapshot.specs.Sources.{Data, placed}
-use Rattle.snapshot.specs.Tracking as calls
-use Rattle.snapshot.specs.Answers.{contextOf, recordedOf}
+use Rattle.tracking.specs.declared.context.Stored as context-stored
+use Rattle.tracking.specs.declared.records.Recorded as page-recorded
+use Rattle.tracking.specs.declared.records.Tracking.{Tracking}
+use Rattle.tracking.specs.declared.records.Tracking.the-variants as tracking
+use Rattle.tracking.specs.declared.sources.Place.{Place}
+use Rattle.tracking.specs.declared.sources.Place.the-variants as place
+use Rattle.tracking.specs.Sources.{Data, placed}
+use Rattle.tracking.specs.Tracking as calls
+use Rattle.tracking.specs.Answers.{contextOf, recordedOf}
+use Rattle.snapshot.specs.declared.make.Made as snapshot-made
+use Rattle.snapshot.specs.MakeSnapshot as snapshot
+use Rattle.snapshot.specs.Answers.{madeOf}
 use Rattle.host.specs.declared.Stored.{Stored}
 use Rattle.host.specs.declared.Fresh.{Fresh}
 use Rattle.host.specs.declared.Value.{Value}
@@ -33,7 +36,8 @@ use Rattle.host.specs.declared.MachineAnswer.{MachineAnswer}
 use Rattle.host.specs.declared.Found.{Found}
 use Rattle.host.specs.declared.ContextStored.{ContextStored}
 use Rattle.host.specs.declared.Recorded.{Recorded}
-use Rattle.host.specs.Handed.{left, handed, handedFresh, handedValue, handedIndices, handedMachine, handedFound, leftContext, handedContext, ShownRecord, shownOf, shown, handedRecord}
+use Rattle.host.specs.declared.Made.{Made}
+use Rattle.host.specs.Handed.{left, handed, handedFresh, handedValue, handedIndices, handedMachine, handedFound, leftContext, handedContext, ShownRecord, shownOf, shown, handedRecord, handedMade}
 
 pub stored-on : (r : Stored) (a : Answer) (slots flags area : List ℕ) (x : ℕ × State)
     → answered a slots flags area ≡ x → (r .number ≡ numberOf (a .outcome)) × (r .used ≡ a .memory .used)
@@ -124,3 +128,12 @@ pub record-on : (r : Recorded) (a : page-recorded.Recorded) (m : Tracked) (x : c
     → (recordedOf a, m) ≡ x → handedRecord r ≡ shownOf (numberOf (a .outcome)) (a .entry .tracking)
     → (handedRecord r, m) ≡ shown x
 record-on r a m x e f = ap {B = ShownRecord × Tracked} (λ k. (k, m)) f ∙ ap shown e
+
+-- ---- a snapshot
+
+pub made-on : (r : Made) (a : snapshot-made.Made) (file pages : List ℕ) (m : LentMachine) (x : snapshot.Made × LentMachine)
+    → madeOf a file pages m ≡ x
+    → (r .number ≡ numberOf (a .outcome)) × (r .records ≡ a .records) × (r .pages ≡ a .pages)
+    → handedMade r file pages m ≡ x
+made-on r a file pages m x e (n, s, p) =
+    (λ i. (record { number = n i; records = s i; pages = p i; file = file; body = pages }, m)) ∙ e

@@ -9,7 +9,7 @@ use Rattle.memory.specs.Answers.{wrote}
 use Rattle.machine.specs.declared.Machine.{Machine}
 use Rattle.machine.specs.Numbers.{machineOf}
 use Rattle.machine.specs.Fresh.{Tracked, LentMachine}
-use Rattle.snapshot.specs.Sources.{Data}
+use Rattle.tracking.specs.Sources.{Data}
 use Rattle.host.specs.declared.Stored.{Stored}
 use Rattle.host.specs.declared.Fresh.{Fresh}
 use Rattle.host.specs.declared.Value.{Value}

@@ -6,11 +6,12 @@ use Rattle.memory.specs.Pages.{PageIndices}
 use Rattle.memory.specs.Storage.{State, Valued, stateOf}
 use Rattle.machine.specs.Numbers.{numbersOf}
 use Rattle.machine.specs.Fresh.{Tracked, LentMachine}
-use Rattle.snapshot.specs.declared.records.Tracking.{Tracking}
-use Rattle.snapshot.specs.declared.records.Tracking.the-variants as tracking
-use Rattle.snapshot.specs.Sources.{Data}
-use Rattle.snapshot.specs.Tracking as calls
-use Rattle.snapshot.specs.Answers.{trackedOf}
+use Rattle.tracking.specs.declared.records.Tracking.{Tracking}
+use Rattle.tracking.specs.declared.records.Tracking.the-variants as tracking
+use Rattle.tracking.specs.Sources.{Data}
+use Rattle.tracking.specs.Tracking as calls
+use Rattle.tracking.specs.Answers.{trackedOf}
+use Rattle.snapshot.specs.MakeSnapshot as snapshot
 use Rattle.host.specs.declared.Stored.{Stored}
 use Rattle.host.specs.declared.Fresh.{Fresh}
 use Rattle.host.specs.declared.Value.{Value}
@@ -19,6 +20,7 @@ use Rattle.host.specs.declared.MachineAnswer.{MachineAnswer}
 use Rattle.host.specs.declared.Found.{Found}
 use Rattle.host.specs.declared.ContextStored.{ContextStored}
 use Rattle.host.specs.declared.Recorded.{Recorded}
+use Rattle.host.specs.declared.Made.{Made}
 
 -- a memory as a host lends it: its size and its slots in use. The reservation stays with the host, and none of these calls looks
 -- at it
@@ -120,3 +122,9 @@ shown r = (shownOf (r .0 .number) (r .0 .tracking), r .1)
 
 abbrev pub handedRecord : Recorded → ShownRecord
 handedRecord r = record { number = r .number; tracked = r .tracked; id = r .id; offset = r .offset; flag = r .flag }
+
+-- ---- a snapshot
+
+abbrev pub handedMade : Made → List ℕ → List ℕ → LentMachine → snapshot.Made × LentMachine
+handedMade r file pages m =
+    (record { number = r .number; records = r .records; pages = r .pages; file = file; body = pages }, m)

@@ -18,16 +18,20 @@ ghost use Rattle.memory.specs.WXorX as wx;
 ghost use Rattle.memory.specs.Answers.{wrote, laid};
 ghost use Rattle.machine.specs.Numbers.{numbersOf, machineOf, changed, register, setRegister, updatePc, commitPc, setCycles, setMaxCycles};
 ghost use Rattle.machine.specs.Fresh as machines;
-ghost use Rattle.snapshot.specs.Sources.{findData, placed};
-ghost use Rattle.snapshot.specs.Operations as tracking;
-ghost use Rattle.snapshot.specs.Tracking.{trackPages, untrackPages, markProgram, pageRecord};
-ghost use Rattle.snapshot.specs.Tracking as context;
-ghost use Rattle.host.specs.Handed.{lent, left, handed, handedFresh, handedValue, handedIndices, handedMachine, handedFound, lentTracked, leftContext, handedContext, shown, handedRecord, shownOf};
+ghost use Rattle.tracking.specs.Sources.{findData, placed};
+ghost use Rattle.tracking.specs.Operations as tracking;
+ghost use Rattle.tracking.specs.Tracking.{trackPages, untrackPages, markProgram, pageRecord};
+ghost use Rattle.tracking.specs.Tracking as context;
+ghost use Rattle.snapshot.specs.MakeSnapshot.{makeSnapshot};
+ghost use Rattle.snapshot.specs.Resume.{resume};
+ghost use Rattle.snapshot.specs.Answers.{lentOf};
+ghost use Rattle.snapshot.specs.Answers as snapshots;
+ghost use Rattle.host.specs.Handed.{handedMade, lent, left, handed, handedFresh, handedValue, handedIndices, handedMachine, handedFound, lentTracked, leftContext, handedContext, shown, handedRecord, shownOf};
 use machine::Machine;
 use memory::Memory;
 use outcome::Outcome;
-use snapshot::records::Tracking;
-use snapshot::sources::Place;
+use tracking::records::Tracking;
+use tracking::sources::Place;
 
 // A number of document 01's table, and the slots in use.
 #[repr(C)]
@@ -91,6 +95,14 @@ pub struct Recorded {
     pub id: u64,
     pub offset: u64,
     pub flag: u32,
+}
+
+// A number of document 01's table, and the records and pages that a snapshot wrote.
+#[repr(C)]
+pub struct Made {
+    pub number: u32,
+    pub records: u64,
+    pub pages: u64,
 }
 
 fn answer_of(answer: memory::Answer) -> Stored
@@ -166,7 +178,7 @@ fn found_of(place: Place) -> Found
     }
 }
 
-fn context_of(answer: snapshot::context::Stored) -> ContextStored
+fn context_of(answer: tracking::context::Stored) -> ContextStored
     ensures { λ r. ⌜ (r .number ≡ numberOf (answer .outcome)) × (r .used ≡ answer .memory .used) × (r .stored ≡ answer .stored) × (r .full ≡ answer .full) ⌝ }
 {
     let outcome = answer.outcome;
@@ -179,7 +191,7 @@ fn context_of(answer: snapshot::context::Stored) -> ContextStored
     }
 }
 
-fn record_of(answer: snapshot::records::Recorded) -> Recorded
+fn record_of(answer: tracking::records::Recorded) -> Recorded
     ensures { λ r. ⌜ handedRecord r ≡ shownOf (numberOf (answer .outcome)) (answer .entry .tracking) ⌝ }
 {
     let outcome = answer.outcome;
@@ -200,6 +212,17 @@ fn record_of(answer: snapshot::records::Recorded) -> Recorded
         id,
         offset,
         flag: flag as u32,
+    }
+}
+
+fn made_of(answer: snapshot::make::Made) -> Made
+    ensures { λ r. ⌜ (r .number ≡ numberOf (answer .outcome)) × (r .records ≡ answer .records) × (r .pages ≡ answer .pages) ⌝ }
+{
+    let outcome = answer.outcome;
+    Made {
+        number: outcome::number(outcome),
+        records: answer.records,
+        pages: answer.pages,
     }
 }
 
@@ -1202,7 +1225,7 @@ pub extern "C" fn latchpebble_find_data(
 ) -> Found
     ensures { λ r. ⌜ handedFound r ≡ findData (now (directory .entry)) (length (now (sources .entry))) id offset size ⌝ }
 {
-    found_of(snapshot::sources::find_data(directory, sources, id, offset, size))
+    found_of(tracking::sources::find_data(directory, sources, id, offset, size))
 }
 
 #[no_mangle]
@@ -1225,7 +1248,7 @@ pub extern "C" fn latchpebble_track_pages(
         used,
         reservation: 0,
     };
-    outcome::number(snapshot::context::track_pages(
+    outcome::number(tracking::context::track_pages(
         slots,
         flags,
         area,
@@ -1256,7 +1279,7 @@ pub extern "C" fn latchpebble_untrack_pages(
         used,
         reservation: 0,
     };
-    outcome::number(snapshot::context::untrack_pages(
+    outcome::number(tracking::context::untrack_pages(
         slots,
         flags,
         area,
@@ -1290,7 +1313,7 @@ pub extern "C" fn latchpebble_context_store_bytes(
         used,
         reservation: 0,
     };
-    context_of(snapshot::context::store_bytes(
+    context_of(tracking::context::store_bytes(
         slots,
         flags,
         area,
@@ -1325,7 +1348,7 @@ pub extern "C" fn latchpebble_mark_program(
         used,
         reservation: 0,
     };
-    outcome::number(snapshot::context::mark_program(
+    outcome::number(tracking::context::mark_program(
         slots,
         flags,
         area,
@@ -1354,5 +1377,47 @@ pub extern "C" fn latchpebble_page_record(
         used,
         reservation: 0,
     };
-    record_of(snapshot::records::page_record(slots, flags, area, records, memory, page))
+    record_of(tracking::records::page_record(slots, flags, area, records, memory, page))
+}
+
+#[no_mangle]
+pub extern "C" fn latchpebble_make_snapshot(
+    slots: &[u16],
+    flags: &[u8],
+    area: &[u8],
+    records: &[u64],
+    file: &mut [u8],
+    pages: &mut [u8],
+    machine: Machine,
+) -> Made
+    ensures { λ r. ⌜ handedMade r (now (file .exit)) (now (pages .exit)) (lentOf (now (slots .entry)) (now (flags .entry)) (now (area .entry)) (now (records .entry)) machine) ≡ snapshots.laid (now (file .entry)) (now (pages .entry)) (run tracking.machineDoes (makeSnapshot (length (now (file .entry))) (length (now (pages .entry)))) (lentOf (now (slots .entry)) (now (flags .entry)) (now (area .entry)) (now (records .entry)) machine)) ⌝ }
+{
+    made_of(snapshot::make::make_snapshot(slots, flags, area, records, file, pages, machine))
+}
+
+#[no_mangle]
+pub extern "C" fn latchpebble_resume(
+    slots: &mut [u16],
+    flags: &mut [u8],
+    area: &mut [u8],
+    records: &mut [u64],
+    directory: &[u64],
+    sources: &[u8],
+    file: &[u8],
+    pages: &[u8],
+    machine: Machine,
+) -> MachineAnswer
+    ensures { λ r. ⌜ handedMachine r (now (slots .exit)) (now (flags .exit)) (now (area .exit)) (now (records .exit)) ≡ run tracking.machineDoes (resume (now (directory .entry)) (now (sources .entry)) (now (file .entry)) (now (pages .entry))) (lentOf (now (slots .entry)) (now (flags .entry)) (now (area .entry)) (now (records .entry)) machine) ⌝ }
+{
+    machine_of(snapshot::resume::resume(
+        slots,
+        flags,
+        area,
+        records,
+        directory,
+        sources,
+        file,
+        pages,
+        machine,
+    ))
 }

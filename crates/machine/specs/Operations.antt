@@ -1,9 +1,12 @@
 -- The operations on a machine's own numbers: each is what its call does.
+use mathlib.Core.List.{List}
 use Prim.Native.Nat.{ℕ}
 use Rattle.memory.specs.Storage.{Valued}
-use Rattle.machine.specs.Numbers.{Numbers, register, setRegister, updatePc, commitPc, setCycles, setMaxCycles}
+use Rattle.machine.specs.Numbers.{Numbers, withRegisters, register, setRegister, updatePc, commitPc, setCycles, setMaxCycles}
 
 pub data Op : Type 0 where
+  registers? : Op
+  registers! : List ℕ → Op
   register? : ℕ → Op
   register! : ℕ → ℕ → Op
   pc? : Op
@@ -16,6 +19,8 @@ pub data Op : Type 0 where
   max-cycles! : ℕ → Op
 
 abbrev pub Reply : Op → Type 0
+Reply registers? = List ℕ
+Reply (registers! l) = ℕ
 Reply (register? i) = Valued
 Reply (register! i x) = ℕ
 Reply pc? = ℕ
@@ -28,6 +33,8 @@ Reply max-cycles? = ℕ
 Reply (max-cycles! x) = ℕ
 
 abbrev pub does : (o : Op) → Numbers → Reply o × Numbers
+does registers? n = (n .registers, n)
+does (registers! l) n = (0, withRegisters l n)
 does (register? i) n = (register i n, n)
 does (register! i x) n = setRegister i x n
 does pc? n = (n .pc, n)

@@ -11,7 +11,7 @@ ghost use lib.ListN.{length};
 ghost use Rattle.outcome.specs.Numbers.{numberOf};
 ghost use Rattle.words.specs.Bytes.{filled};
 ghost use Rattle.memory.specs.Answers.{valueOf};
-ghost use Rattle.machine.specs.Numbers.{numbersOf, machineOf, freshNumbers, register, setRegister, updatePc, commitPc, setCycles, setMaxCycles, changed};
+ghost use Rattle.machine.specs.Numbers.{numbersOf, machineOf, freshNumbers, withRegisters, register, setRegister, updatePc, commitPc, setCycles, setMaxCycles, changed};
 ghost use Rattle.machine.specs.Fresh.{recordsFit, fresh, answered};
 use memory::Memory;
 use memory::PAGE;
@@ -53,7 +53,7 @@ pub fn records_fit(words: usize, pages: u64) -> bool
 }
 
 // Every record is untracked.
-fn untrack_all(records: &mut [u64])
+pub fn untrack_all(records: &mut [u64])
     ensures { λ r. ⌜ now (records .exit) ≡ filled (length (now (records .entry))) 0 ⌝ }
 {
     let mut i = 0;
@@ -118,6 +118,21 @@ pub fn fresh(
 }
 
 impl Machine {
+    // The registers.
+    pub fn registers(self) -> [u64; RISCV_GENERAL_REGISTER_NUMBER]
+        ensures { λ r. ⌜ r ≡ numbersOf self .registers ⌝ }
+    {
+        self.registers
+    }
+
+    // Sets all registers.
+    pub fn with_registers(mut self, registers: [u64; RISCV_GENERAL_REGISTER_NUMBER]) -> Self
+        ensures { λ r. ⌜ r ≡ machineOf (withRegisters registers (numbersOf self)) (self .memory) ⌝ }
+    {
+        self.registers = registers;
+        self
+    }
+
     // A register.
     pub fn register(self, i: u64) -> Value
         ensures { λ r. ⌜ valueOf r ≡ register i (numbersOf self) ⌝ }

@@ -81,6 +81,10 @@ number-is-once r q x e f = e ∙ sym f
 pub memory-once : (r q x : Memory) → r ≡ x → q ≡ x → r ≡ q
 memory-once r q x e f = e ∙ sym f
 
+-- meet
+pub meet-once : (r q : Outcome) (n : ℕ) → numberOf r ≡ n → numberOf q ≡ n → r ≡ q
+meet-once r q n e f = number-once r q (e ∙ sym f)
+
 -- storage_fits
 pub told-once : (r q x : Bool) → r ≡ x → q ≡ x → r ≡ q
 told-once r q x e f = e ∙ sym f

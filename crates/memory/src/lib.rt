@@ -6,7 +6,8 @@
 //
 //   sparse   pages in slots; no permission check
 //   wxorx    the same, with the W^X check on stores and execute loads, and frozen pages
-//   lib      page indices, the permission check, set_dirty, and the fill of pages, as memory/mod.rs has them
+//   lib      page indices, whether a page can be read, the permission check, set_dirty, and the fill of pages, as memory/mod.rs
+//            has them
 //
 // Every call answers on every input, and looks at the lengths of the lent storage first (refusal 9). What it answers and
 // leaves is one program of specs/ (Sparse.antt, WXorX.antt), run on the lent lists. Stores of bytes and stores and loads of
@@ -23,7 +24,7 @@ ghost use lib.ListN.{length};
 ghost use Rattle.outcome.specs.Numbers.{numberOf};
 ghost use Rattle.program.specs.Program.{run};
 ghost use Rattle.memory.specs.Pages.{pagesWithin, pageIndices};
-ghost use Rattle.memory.specs.Storage.{stateOf, fitsLengths, Fitting};
+ghost use Rattle.memory.specs.Storage.{stateOf, fitsLengths, Fitting, met};
 ghost use Rattle.memory.specs.Operations.{does};
 ghost use Rattle.memory.specs.Sparse.{permits, checkPermission, marks, setDirty, fillPageData};
 ghost use Rattle.memory.specs.WXorX.{permitted};
@@ -154,6 +155,23 @@ pub fn get_page_indices(address: u64, size: u64) -> Indices
     ensures { λ r. ⌜ indicesOf r ≡ pageIndices address size ⌝ }
 {
     pages_within(address, size, RISCV_MAX_MEMORY)
+}
+
+// Whether bytes of a page can be read.
+pub fn meet(slots: &[u16], used: u64, page: usize) -> Outcome
+    ensures { λ r. ⌜ numberOf r ≡ met (now (slots .entry)) used page ⌝ }
+{
+    if page >= slots.len() {
+        return Outcome::MemOutOfBound;
+    }
+    let slot = page::slot_of(slots, page);
+    if slot == INVALID_PAGE_INDEX {
+        return Outcome::Done;
+    }
+    if slot < used as usize {
+        return Outcome::Done;
+    }
+    Outcome::BadStorage
 }
 
 // Every page from first to last has the W^X bit of `flag`.

@@ -8,7 +8,7 @@ ghost use Rattle.outcome.specs.Numbers.{numberOf};
 ghost use Rattle.words.specs.Bytes.{written};
 ghost use Rattle.program.specs.Program.{run};
 ghost use Rattle.memory.specs.Pages.{maximum};
-ghost use Rattle.memory.specs.Storage.{stateOf, Fitting, byteIn, span, met};
+ghost use Rattle.memory.specs.Storage.{stateOf, Fitting, byteIn, span};
 ghost use Rattle.memory.specs.Operations.{does};
 ghost use Rattle.memory.specs.Sparse.{load, meets, reach, cString};
 ghost use Rattle.memory.specs.Answers.{valueOf, wrote, laid};
@@ -19,23 +19,6 @@ use super::Value;
 use super::page;
 use bits::RISCV_PAGESIZE;
 use outcome::Outcome;
-
-// Whether bytes of a page can be read.
-fn meet(slots: &[u16], used: u64, page: usize) -> Outcome
-    ensures { λ r. ⌜ numberOf r ≡ met (now (slots .entry)) used page ⌝ }
-{
-    if page >= slots.len() {
-        return Outcome::MemOutOfBound;
-    }
-    let slot = page::slot_of(slots, page);
-    if slot == INVALID_PAGE_INDEX {
-        return Outcome::Done;
-    }
-    if slot < used as usize {
-        return Outcome::Done;
-    }
-    Outcome::BadStorage
-}
 
 // The byte at an address.
 fn byte_at(slots: &[u16], area: &[u8], address: u64) -> u8
@@ -104,7 +87,7 @@ pub fn load_wide(
     let page = (address / PAGE) as usize;
     let at = (address % PAGE) as usize;
     let used = memory.used;
-    let outcome = meet(slots, used, page);
+    let outcome = super::meet(slots, used, page);
     if outcome::is_done(outcome) {} else {
         return Value { outcome, value: 0 };
     }
@@ -122,7 +105,7 @@ pub fn load_wide(
             value,
         };
     }
-    let second = meet(slots, used, page + 1);
+    let second = super::meet(slots, used, page + 1);
     if outcome::is_done(second) {} else {
         return Value {
             outcome: second,
@@ -156,7 +139,7 @@ fn meet_pages(
     let mut page = (address / PAGE) as usize;
     let last = ((address + n - 1) / PAGE) as usize;
     while page <= last {
-        let outcome = meet(slots, used, page);
+        let outcome = super::meet(slots, used, page);
         if outcome::is_done(outcome) {} else {
             return outcome;
         }
@@ -212,7 +195,7 @@ pub fn load_text(
     let mut i: usize = 0;
     let mut at = address;
     loop {
-        let outcome = meet(slots, used, (at / PAGE) as usize);
+        let outcome = super::meet(slots, used, (at / PAGE) as usize);
         if outcome::is_done(outcome) {} else {
             return Value { outcome, value: 0 };
         }

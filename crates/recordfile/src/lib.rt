@@ -10,6 +10,7 @@
 // What a record says is `recordAt` (specs/Records.antt), the form is `judged` (specs/Form.antt), and the snapshot that two files
 // hold is `snapshotIn` (specs/Snapshots.antt). That reading and writing undo each other is proofs/RoundTrip.antt.
 pub mod form;
+pub mod reader;
 
 ghost use mathlib.Core.Path.{_≡_};
 ghost use Prim.Native.Nat.{_+_, _≤_};

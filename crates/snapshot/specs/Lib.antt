@@ -1,9 +1,5 @@
--- Document 01, "Sources and tracking", in its order: sources, page records, the operations that calls are made of, the calls,
--- what a call answers, and what a caller sees.
-pub mod Sources
-pub mod Records
-pub mod Operations
-pub mod Tracking
+-- Document 01, "Snapshot and resume", in its order: the runs of a snapshot, how it is made, and resume.
+pub mod Runs
+pub mod MakeSnapshot
+pub mod Resume
 pub mod Answers
-pub mod View
-pub mod Calls

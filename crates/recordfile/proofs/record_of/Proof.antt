@@ -1,56 +1,44 @@
+-- One law for each kind and each range.
 use borrow.Author.Needs.{needs}
+use Rattle.recordfile.proofs.Decoding.{state-is, state-bad, registers-is, source-is, source-bad, dirty-is, dirty-ends, dirty-bad, no-kind}
 use Rattle.recordfile.proofs.record_of.Statement.{statement}
 use Rattle.recordfile.proofs.record_of.Tie as tie
-use Rattle.recordfile.proofs.record_of.Reads as reads
-use Rattle.recordfile.proofs.record_of.Lts as lts
 
--- src/lib.rt:120:26
 cast-t9 : tie.Need-cast-t9
 cast-t9 c = search needs
 
--- src/lib.rt:119:13
 returns : tie.Need-returns
-returns c = ?
+returns c = search (needs, state-is)
 
--- src/lib.rt:127:9
 returns-2 : tie.Need-returns-2
-returns-2 c = ?
+returns-2 c = search (needs, state-bad)
 
--- src/lib.rt:130:9
 returns-3 : tie.Need-returns-3
-returns-3 c = ?
+returns-3 c = search (needs, registers-is)
 
--- src/lib.rt:142:23
 cast-t11 : tie.Need-cast-t11
 cast-t11 c = search needs
 
--- src/lib.rt:140:13
 returns-4 : tie.Need-returns-4
-returns-4 c = ?
+returns-4 c = search (needs, source-is)
 
--- src/lib.rt:148:9
 returns-5 : tie.Need-returns-5
-returns-5 c = ?
+returns-5 c = search (needs, source-bad)
 
--- src/lib.rt:155:27
 cast-t14 : tie.Need-cast-t14
 cast-t14 c = search needs
 
--- src/lib.rt:153:17
 returns-6 : tie.Need-returns-6
-returns-6 c = ?
+returns-6 c = search (needs, dirty-is)
 
--- src/lib.rt:161:9
 returns-7 : tie.Need-returns-7
-returns-7 c = ?
+returns-7 c = search (needs, dirty-ends)
 
--- src/lib.rt:161:9
 returns-8 : tie.Need-returns-8
-returns-8 c = ?
+returns-8 c = search (needs, dirty-bad)
 
--- src/lib.rt:114:1
 returns-9 : tie.Need-returns-9
-returns-9 c = ?
+returns-9 c = search (needs, no-kind)
 
 pub record-of-spec : {M : Type 1} → statement M
 record-of-spec =

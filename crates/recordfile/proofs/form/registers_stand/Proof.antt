@@ -1,58 +1,49 @@
+-- Invariant: the register records that are left come to what all of them come to. Measure: how many are left.
+use Prim.Native.Nat.{_-_}
+use borrow.Author.Needs.{needs}
+use Rattle.recordfile.specs.Form.{registerRecords}
+use Rattle.recordfile.proofs.Judging.{RegistersTo, registers-start, registers-other, registers-apart, registers-next, registers-end}
 use Rattle.recordfile.proofs.form.registers_stand.Statement.{statement}
 use Rattle.recordfile.proofs.form.registers_stand.Tie as tie
-use Rattle.recordfile.proofs.form.registers_stand.Reads as reads
-use Rattle.recordfile.proofs.form.registers_stand.Lts as lts
-use Rattle.recordfile.proofs.decode.Reads as decode-reads
 
 abbrev Inv-loop : tie.InvT-loop
-Inv-loop file i₀ i = ?
+Inv-loop file i₀ i = RegistersTo file i
 
 abbrev μ-loop : tie.MeasureT-loop
-μ-loop file i₀ i = ?
+μ-loop file i₀ i = registerRecords - i
 
--- src/form.rt:31:5
 loop-holds : tie.Need-loop-holds Inv-loop μ-loop
-loop-holds c = ?
+loop-holds c = search (needs, registers-start)
 
--- src/form.rt:38:33
 add-decode : tie.Need-add-decode Inv-loop μ-loop
-add-decode c = ?
+add-decode c = search needs
 
--- src/form.rt:38:13
 decode-requires : tie.Need-decode-requires Inv-loop μ-loop
-decode-requires c κs = ?
+decode-requires c κs = search needs
 
--- src/form.rt:33:13
 enum-known-first : tie.Need-enum-known-first Inv-loop μ-loop
-enum-known-first c = ?
+enum-known-first c = search needs
 
--- src/form.rt:40:13
 returns : tie.Need-returns Inv-loop μ-loop
-returns c = ?
+returns c = search (needs, registers-other)
 
--- src/form.rt:42:21
 mul-if1 : tie.Need-mul-if1 Inv-loop μ-loop
-mul-if1 c = ?
+mul-if1 c = search needs
 
--- src/form.rt:43:13
 returns-2 : tie.Need-returns-2 Inv-loop μ-loop
-returns-2 c = ?
+returns-2 c = search (needs, registers-apart)
 
--- src/form.rt:45:9
 add-i : tie.Need-add-i Inv-loop μ-loop
-add-i c = ?
+add-i c = search needs
 
--- src/form.rt:31:5
 loop-less : tie.Need-loop-less Inv-loop μ-loop
-loop-less c = ?
+loop-less c = search needs
 
--- src/form.rt:31:5
 loop-again : tie.Need-loop-again Inv-loop μ-loop
-loop-again c = ?
+loop-again c = search (needs, registers-next)
 
--- src/form.rt:26:1
 returns-3 : tie.Need-returns-3 Inv-loop μ-loop
-returns-3 c = ?
+returns-3 c = search (needs, registers-end)
 
 pub registers-stand-spec : {M : Type 1} → statement M
 registers-stand-spec =

@@ -1,45 +1,39 @@
+-- Invariant: the runs that are left come to what all of them come to. Measure: how many records are left.
+use Prim.Native.Nat.{_-_}
+use borrow.Author.Needs.{needs}
+use Rattle.recordfile.proofs.Judging.{SourcesTo, sources-start, sources-other, sources-next, sources-end}
 use Rattle.recordfile.proofs.form.sources_end.Statement.{statement}
 use Rattle.recordfile.proofs.form.sources_end.Tie as tie
-use Rattle.recordfile.proofs.form.sources_end.Reads as reads
-use Rattle.recordfile.proofs.form.sources_end.Lts as lts
-use Rattle.recordfile.proofs.decode.Reads as decode-reads
 
 abbrev Inv-loop : tie.InvT-loop
-Inv-loop file count i₀ i = ?
+Inv-loop file count i₀ i = SourcesTo file count i
 
 abbrev μ-loop : tie.MeasureT-loop
-μ-loop file count i₀ i = ?
+μ-loop file count i₀ i = count - i
 
--- src/form.rt:58:5
 loop-holds : tie.Need-loop-holds Inv-loop μ-loop
-loop-holds c = ?
+loop-holds c = search (needs, sources-start)
 
--- src/form.rt:65:13
 decode-requires : tie.Need-decode-requires Inv-loop μ-loop
-decode-requires c κs = ?
+decode-requires c κs = search needs
 
 enum-told : tie.Need-enum-told Inv-loop μ-loop
-enum-told c = ?
+enum-told c = search needs
 
--- src/form.rt:67:13
 returns : tie.Need-returns Inv-loop μ-loop
-returns c = ?
+returns c = search (needs, sources-other)
 
--- src/form.rt:69:9
 add-i : tie.Need-add-i Inv-loop μ-loop
-add-i c = ?
+add-i c = search needs
 
--- src/form.rt:58:5
 loop-less : tie.Need-loop-less Inv-loop μ-loop
-loop-less c = ?
+loop-less c = search needs
 
--- src/form.rt:58:5
 loop-again : tie.Need-loop-again Inv-loop μ-loop
-loop-again c = ?
+loop-again c = search (needs, sources-next)
 
--- src/form.rt:51:1
 returns-2 : tie.Need-returns-2 Inv-loop μ-loop
-returns-2 c = ?
+returns-2 c = search (needs, sources-end)
 
 pub sources-end-spec : {M : Type 1} → statement M
 sources-end-spec =

@@ -1,0 +1,7 @@
+-- What holds across calls: well-formed storage, what is seen, and which numbers are answered:
+pub mod WellFormed
+pub mod Seen
+pub mod Numbers
+pub mod Told
+-- document 01's table:
+pub mod Table

@@ -62,3 +62,7 @@ memory-once r q x e f = e ∙ sym f
 -- records_fit
 pub told-once : (r q x : Bool) → r ≡ x → q ≡ x → r ≡ q
 told-once r q x e f = e ∙ sym f
+
+-- registers, and the records that untrack_all leaves
+pub list-once : (r q x : List ℕ) → r ≡ x → q ≡ x → r ≡ q
+list-once r q x e f = e ∙ sym f

@@ -7,12 +7,17 @@ use Rattle.memory.specs.Storage.{Valued}
 use Rattle.memory.specs.Sparse.{Output}
 use Rattle.memory.proofs.Told as memory
 use Rattle.machine.specs.Operations as machine
-use Rattle.handover.specs.Calls.{Named, on-memory, on-numbers, load-data, track-pages, untrack-pages, store-bytes, mark-program, page-record, Answers, Given, named, clear-flag, AnswerTo, Told, line, saidNumbers, said, told}
+use Rattle.handover.specs.Calls.{Named, on-memory, on-numbers, load-data, track-pages, untrack-pages, store-bytes, mark-program, page-record, make-snapshot, resume, Answers, Given, named, clear-flag, AnswerTo, Told, line, saidNumbers, said, told}
 
 -- the first part of an answer
 first : List (List ℕ) → List ℕ
 first [] = []
 first (l ∷ ls) = l
+
+-- and the second
+second : List (List ℕ) → List ℕ
+second [] = []
+second (l ∷ ls) = first ls
 
 number-once : (x y : ℕ) → line x [] [] ≡ line y [] [] → x ≡ y
 number-once x y e = ap (λ (t : Told). t .number) e
@@ -42,7 +47,7 @@ numbers-once machine.max-cycles? x y e = value-once x y e
 numbers-once (machine.max-cycles! v) x y e = number-once x y e
 
 pub said-once : (c : Named) (x y : Answers c) → said c x ≡ said c y → x ≡ y
-unfolding first
+unfolding first second
 said-once (on-memory c) x y e = memory.said-once c x y (output-once _ _ e)
 said-once (on-numbers o) x y e = numbers-once o x y e
 said-once (load-data directory sources id offset wanted) x y e = λ i.
@@ -63,6 +68,15 @@ said-once (store-bytes directory sources a id offset wanted sizeAt) x y e = λ i
 said-once (mark-program actions id offset) x y e = number-once x y e
 said-once (page-record p) x y e = λ i.
     record { number = (e i) .number; page = getD ((e i) .values) 0 0; tracking = (e i) .tracking }
+said-once (make-snapshot file pages) x y e = λ i.
+    record {
+      number = (e i) .number;
+      records = getD ((e i) .values) 0 0;
+      pages = getD ((e i) .values) 1 0;
+      file = first ((e i) .parts);
+      body = second ((e i) .parts);
+    }
+said-once (resume directory sources file pageFile) x y e = number-once x y e
 
 pub told-once : (g : Given) (x y : AnswerTo g) → told g x ≡ told g y → x ≡ y
 told-once (named c) x y e = said-once c x y e

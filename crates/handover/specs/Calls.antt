@@ -17,6 +17,8 @@ use Rattle.tracking.specs.declared.records.Tracking.the-variants.{Untracked}
 use Rattle.tracking.specs.Sources.{Data, findData, dataOf}
 use Rattle.tracking.specs.Operations.{MachineCall, machineDoes, onMemory}
 use Rattle.tracking.specs.Tracking.{Stored, Recorded, trackPages, untrackPages, storeBytes, markProgram, pageRecord}
+use Rattle.snapshot.specs.MakeSnapshot.{Made, makeSnapshot}
+use Rattle.snapshot.specs.Resume as snapshot
 
 -- every public call on a machine but fresh and clear_flag. A call on the machine's memory is made by way of `memory` and
 -- `with_memory`; records_fit and lengths_fit ask lengths alone
@@ -34,6 +36,10 @@ pub data Named : Type 0 where
   -- actions, id, offset
   mark-program : List ℕ → ℕ → ℕ → Named
   page-record : ℕ → Named
+  -- the bytes that the record file's output holds, and the page file's
+  make-snapshot : ℕ → ℕ → Named
+  -- directory, source bytes, record file, page file
+  resume : List ℕ → List ℕ → List ℕ → List ℕ → Named
 
 -- what is loaded: the place, and the part of the source bytes
 pub record Loaded : Type 0 where
@@ -52,6 +58,8 @@ Answers (untrack-pages start size) = ℕ
 Answers (store-bytes directory sources a id offset wanted sizeAt) = Stored
 Answers (mark-program actions id offset) = ℕ
 Answers (page-record p) = Recorded
+Answers (make-snapshot file pages) = Made
+Answers (resume directory sources file pageFile) = ℕ
 
 abbrev pub program : (c : Named) → MachineCall (Answers c)
 program (on-memory c) = lift (onMemory (memory.program c))
@@ -63,6 +71,8 @@ program (untrack-pages start size) = lift (untrackPages start size)
 program (store-bytes directory sources a id offset wanted sizeAt) = lift (storeBytes directory sources a id offset wanted sizeAt)
 program (mark-program actions id offset) = lift (markProgram actions id offset)
 program (page-record p) = lift (pageRecord p)
+program (make-snapshot file pages) = makeSnapshot file pages
+program (resume directory sources file pageFile) = snapshot.resume directory sources file pageFile
 
 -- ---- calls in turn
 
@@ -130,6 +140,8 @@ said (untrack-pages start size) n = line n [] []
 said (store-bytes directory sources a id offset wanted sizeAt) x = line (x .number) (x .stored ∷ x .full ∷ []) []
 said (mark-program actions id offset) n = line n [] []
 said (page-record p) x = record { number = x .number; values = x .page ∷ []; parts = []; tracking = x .tracking }
+said (make-snapshot file pages) x = line (x .number) (x .records ∷ x .pages ∷ []) (x .file ∷ x .body ∷ [])
+said (resume directory sources file pageFile) n = line n [] []
 
 abbrev pub told : (g : Given) → AnswerTo g → Told
 told (named c) x = said c x

@@ -11,7 +11,7 @@ ghost use Rattle.bits.specs.Rounding.{pageSize};
 ghost use Rattle.outcome.specs.Numbers.{numberOf};
 ghost use Rattle.words.specs.Bytes.{written};
 ghost use Rattle.program.specs.Program.{run};
-ghost use Rattle.memory.specs.Pages.{dirty};
+ghost use Rattle.memory.specs.Pages.{dirty, maximum};
 ghost use Rattle.memory.specs.Storage.{Fitting};
 ghost use Rattle.recordfile.specs.Words.{recordBytes};
 ghost use Rattle.recordfile.specs.Form.{leastRecords, registerRecords};
@@ -316,6 +316,7 @@ fn write_head(file: &mut [u8], machine: Machine)
 
 // The records of the source runs, from a record on.
 fn write_sources(flags: &[u8], records: &[u64], file: &mut [u8], from: usize)
+    requires { ⌜ length (now flags) * pageSize ≤ maximum ⌝ }
     requires { ⌜ (from + length (sourcesFrom (now flags) (now records) 0)) * recordBytes ≤ length (now file) ⌝ }
     ensures { λ r. ⌜ now (file .exit) ≡ written (now (file .entry)) (from * recordBytes) (imageOf (sourceRecords (sourcesFrom (now (flags .entry)) (now (records .entry)) 0))) ⌝ }
 {

@@ -1,57 +1,49 @@
+-- The pages passed have one flag, and are joined to the runs from the next page on. The measure is the pages left.
+use Prim.Native.Nat.{_-_}
+use lib.ListN.{length}
+use borrow.Author.Needs.{needs}
+use Rattle.snapshot.proofs.DirtyPages.{Stretch, stretch, stretch-other, stretch-on, stretch-end}
 use Rattle.snapshot.proofs.make.dirty_length.Statement.{statement}
 use Rattle.snapshot.proofs.make.dirty_length.Tie as tie
-use Rattle.snapshot.proofs.make.dirty_length.Reads as reads
-use Rattle.snapshot.proofs.make.dirty_length.Lts as lts
 
 abbrev Inv-loop : tie.InvT-loop
-Inv-loop flags page flag next₀ next = ?
+Inv-loop flags page flag next₀ next = Stretch flags page flag next
 
 abbrev μ-loop : tie.MeasureT-loop
-μ-loop flags page flag next₀ next = ?
+μ-loop flags page flag next₀ next = length flags - next
 
--- src/make.rt:79:16
 shared-slice-read-flag : tie.Need-shared-slice-read-flag Inv-loop μ-loop
-shared-slice-read-flag c = ?
+shared-slice-read-flag c = search needs
 
--- src/make.rt:80:20
 add-next : tie.Need-add-next Inv-loop μ-loop
-add-next c = ?
+add-next c = search needs
 
--- src/make.rt:81:5
 loop-holds : tie.Need-loop-holds Inv-loop μ-loop
-loop-holds c = ?
+loop-holds c = search (needs, stretch)
 
--- src/make.rt:82:21
 shared-slice-read-other : tie.Need-shared-slice-read-other Inv-loop μ-loop
-shared-slice-read-other c = ?
+shared-slice-read-other c = search needs
 
--- src/make.rt:84:20
 sub-result : tie.Need-sub-result Inv-loop μ-loop
-sub-result c = ?
+sub-result c = search needs
 
--- src/make.rt:84:13
 returns : tie.Need-returns Inv-loop μ-loop
-returns c = ?
+returns c = (search (needs, stretch-other), search needs)
 
--- src/make.rt:86:9
 add-next-2 : tie.Need-add-next-2 Inv-loop μ-loop
-add-next-2 c = ?
+add-next-2 c = search needs
 
--- src/make.rt:81:5
 loop-less : tie.Need-loop-less Inv-loop μ-loop
-loop-less c = ?
+loop-less c = search needs
 
--- src/make.rt:81:5
 loop-again : tie.Need-loop-again Inv-loop μ-loop
-loop-again c = ?
+loop-again c = search (needs, stretch-on)
 
--- src/make.rt:88:5
 sub-result-2 : tie.Need-sub-result-2 Inv-loop μ-loop
-sub-result-2 c = ?
+sub-result-2 c = search needs
 
--- src/make.rt:73:1
 returns-2 : tie.Need-returns-2 Inv-loop μ-loop
-returns-2 c = ?
+returns-2 c = (search (needs, stretch-end), search needs)
 
 pub dirty-length-spec : {M : Type 1} → statement M
 dirty-length-spec =

@@ -1,36 +1,29 @@
+-- An untracked page, another flag, another item, an offset below a page, else the offset tells.
 use borrow.Author.Needs.{needs}
+use Rattle.snapshot.proofs.SourcePages.{follows-other-flag, follows-other-item, follows-first, follows-offset}
 use Rattle.snapshot.proofs.make.follows.Statement.{statement}
 use Rattle.snapshot.proofs.make.follows.Tie as tie
-use Rattle.snapshot.proofs.make.follows.Reads as reads
-use Rattle.snapshot.proofs.make.follows.Lts as lts
 
--- src/make.rt:112:27
 enum-known-entry : tie.Need-enum-known-entry
 enum-known-entry c = search needs
 
--- src/make.rt:113:9
 enum-told : tie.Need-enum-told
 enum-told c = search needs
 
--- src/make.rt:113:9
 returns : tie.Need-returns
 returns c = search needs
 
--- src/make.rt:116:9
 returns-2 : tie.Need-returns-2
-returns-2 c = ?
+returns-2 c = search (needs, follows-other-flag)
 
--- src/make.rt:119:9
 returns-3 : tie.Need-returns-3
-returns-3 c = ?
+returns-3 c = search (needs, follows-other-item)
 
--- src/make.rt:122:9
 returns-4 : tie.Need-returns-4
-returns-4 c = ?
+returns-4 c = search (needs, follows-first)
 
--- src/make.rt:109:1
 returns-5 : tie.Need-returns-5
-returns-5 c = ?
+returns-5 c = search (needs, follows-offset)
 
 pub follows-spec : {M : Type 1} → statement M
 follows-spec =

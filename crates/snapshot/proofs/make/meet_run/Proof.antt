@@ -1,51 +1,42 @@
+-- The pages passed are met, and what is left decides. The measure is the pages left.
+use Prim.Native.Nat.{_-_}
+use borrow.Author.Needs.{needs}
+use Rattle.snapshot.proofs.Counting.{Meeting, meeting, meet-stop, meet-on, meet-end}
 use Rattle.snapshot.proofs.make.meet_run.Statement.{statement}
 use Rattle.snapshot.proofs.make.meet_run.Tie as tie
-use Rattle.snapshot.proofs.make.meet_run.Reads as reads
-use Rattle.snapshot.proofs.make.meet_run.Lts as lts
-use Rattle.memory.proofs.meet.Reads as meet-reads
-use Rattle.outcome.proofs.is_done.Reads as is-done-reads
 
 abbrev Inv-loop : tie.InvT-loop
-Inv-loop slots used page pages end p₀ p = ?
+Inv-loop slots used page pages end p₀ p = Meeting slots used page pages end p
 
 abbrev μ-loop : tie.MeasureT-loop
-μ-loop slots used page pages end p₀ p = ?
+μ-loop slots used page pages end p₀ p = end - p
 
--- src/make.rt:186:15
 add-end : tie.Need-add-end Inv-loop μ-loop
-add-end c = ?
+add-end c = search needs
 
--- src/make.rt:188:5
 loop-holds : tie.Need-loop-holds Inv-loop μ-loop
-loop-holds c = ?
+loop-holds c = search (needs, meeting)
 
--- src/make.rt:189:13
 meet-requires : tie.Need-meet-requires Inv-loop μ-loop
-meet-requires c κs = ?
+meet-requires c κs = search needs
 
--- src/make.rt:190:12
 is-done-requires : tie.Need-is-done-requires Inv-loop μ-loop
-is-done-requires c κs = ?
+is-done-requires c κs = search needs
 
--- src/make.rt:191:13
 returns : tie.Need-returns Inv-loop μ-loop
-returns c = ?
+returns c = search (needs, meet-stop)
 
--- src/make.rt:193:9
 add-p : tie.Need-add-p Inv-loop μ-loop
-add-p c = ?
+add-p c = search needs
 
--- src/make.rt:188:5
 loop-less : tie.Need-loop-less Inv-loop μ-loop
-loop-less c = ?
+loop-less c = search needs
 
--- src/make.rt:188:5
 loop-again : tie.Need-loop-again Inv-loop μ-loop
-loop-again c = ?
+loop-again c = search (needs, meet-on)
 
--- src/make.rt:182:1
 returns-2 : tie.Need-returns-2 Inv-loop μ-loop
-returns-2 c = ?
+returns-2 c = search (needs, meet-end)
 
 pub meet-run-spec : {M : Type 1} → statement M
 meet-run-spec =

@@ -1,63 +1,52 @@
+-- The pages passed continue one another, and are joined to the runs from the next page on. The measure is the pages left.
+use Prim.Native.Nat.{_-_}
+use lib.ListN.{length}
+use borrow.Author.Needs.{needs}
+use Rattle.snapshot.proofs.SourcePages.{Stretch, stretch, stretch-other, stretch-fits, stretch-on, stretch-end}
 use Rattle.snapshot.proofs.make.source_length.Statement.{statement}
 use Rattle.snapshot.proofs.make.source_length.Tie as tie
-use Rattle.snapshot.proofs.make.source_length.Reads as reads
-use Rattle.snapshot.proofs.make.source_length.Lts as lts
-use Rattle.snapshot.proofs.make.follows.Reads as follows-reads
-use Rattle.tracking.proofs.records.entry_at.Reads as entry-at-reads
 
 abbrev Inv-loop : tie.InvT-loop
-Inv-loop flags records page flag id offset next₀ at₀ next at = ?
+Inv-loop flags records page flag id offset next₀ at₀ next at = Stretch flags records page flag id offset next at
 
 abbrev μ-loop : tie.MeasureT-loop
-μ-loop flags records page flag id offset next₀ at₀ next at = ?
+μ-loop flags records page flag id offset next₀ at₀ next at = length flags - next
 
--- src/make.rt:141:20
 add-next : tie.Need-add-next Inv-loop μ-loop
-add-next c = ?
+add-next c = search needs
 
--- src/make.rt:143:5
 loop-holds : tie.Need-loop-holds Inv-loop μ-loop
-loop-holds c = ?
+loop-holds c = search (needs, stretch)
 
--- src/make.rt:144:13
 entry-at-requires : tie.Need-entry-at-requires Inv-loop μ-loop
-entry-at-requires c κs = ?
+entry-at-requires c κs = search needs
 
--- src/make.rt:145:12
 follows-requires : tie.Need-follows-requires Inv-loop μ-loop
-follows-requires c κs = ?
+follows-requires c κs = search needs
 
--- src/make.rt:146:20
 sub-result : tie.Need-sub-result Inv-loop μ-loop
-sub-result c = ?
+sub-result c = search needs
 
--- src/make.rt:146:13
 returns : tie.Need-returns Inv-loop μ-loop
-returns c = ?
+returns c = (search (needs, stretch-other), search needs)
 
--- src/make.rt:148:9
 add-at : tie.Need-add-at Inv-loop μ-loop
-add-at c = ?
+add-at c = search (needs, stretch-fits)
 
--- src/make.rt:149:9
 add-next-2 : tie.Need-add-next-2 Inv-loop μ-loop
-add-next-2 c = ?
+add-next-2 c = search needs
 
--- src/make.rt:143:5
 loop-less : tie.Need-loop-less Inv-loop μ-loop
-loop-less c = ?
+loop-less c = search needs
 
--- src/make.rt:143:5
 loop-again : tie.Need-loop-again Inv-loop μ-loop
-loop-again c = ?
+loop-again c = search (needs, stretch-on)
 
--- src/make.rt:151:5
 sub-result-2 : tie.Need-sub-result-2 Inv-loop μ-loop
-sub-result-2 c = ?
+sub-result-2 c = search needs
 
--- src/make.rt:128:1
 returns-2 : tie.Need-returns-2 Inv-loop μ-loop
-returns-2 c = ?
+returns-2 c = (search (needs, stretch-end), search needs)
 
 pub source-length-spec : {M : Type 1} → statement M
 source-length-spec =

@@ -1,59 +1,48 @@
+-- Invariant: the pages that are left, with the flags as they are, come to what all come to with those at entry. Measure: how many are left.
+use borrow.Author.Needs.{needs}
+use Rattle.snapshot.proofs.Restored.{Setting, setting-first, setting-stop, setting-next, set-all, set-page}
 use Rattle.snapshot.proofs.resume.set_flags.Statement.{statement}
 use Rattle.snapshot.proofs.resume.set_flags.Tie as tie
-use Rattle.snapshot.proofs.resume.set_flags.Reads as reads
-use Rattle.snapshot.proofs.resume.set_flags.Lts as lts
-use Rattle.memory.proofs.wxorx.set_flag.Reads as set-flag-reads
-use Rattle.outcome.proofs.is_done.Reads as is-done-reads
 
 abbrev Inv-loop : tie.InvT-loop
-Inv-loop slots flags₀ area memory first count flag page₀ left₀ flags page left = ?
+Inv-loop slots flags₀ area memory first count flag page₀ left₀ flags page left =
+    Setting slots area memory flag flags₀ first count flags page left
 
 abbrev μ-loop : tie.MeasureT-loop
-μ-loop slots flags₀ area memory first count flag page₀ left₀ flags page left = ?
+μ-loop slots flags₀ area memory first count flag page₀ left₀ flags page left = left
 
--- src/resume.rt:136:5
 loop-holds : tie.Need-loop-holds Inv-loop μ-loop
-loop-holds c = ?
+loop-holds c = search (needs, setting-first)
 
--- src/resume.rt:137:13
 set-flag-requires : tie.Need-set-flag-requires Inv-loop μ-loop
-set-flag-requires c κs = ?
+set-flag-requires c κs = search needs
 
--- src/resume.rt:138:12
 is-done-requires : tie.Need-is-done-requires Inv-loop μ-loop
-is-done-requires c κs = ?
+is-done-requires c κs = search needs
 
--- src/resume.rt:139:13
 same-length : tie.Need-same-length Inv-loop μ-loop
-same-length c = ?
+same-length c = search needs
 
--- src/resume.rt:139:13
 returns : tie.Need-returns Inv-loop μ-loop
-returns c = ?
+returns c = search (needs, setting-stop)
 
--- src/resume.rt:141:9
 add-page : tie.Need-add-page Inv-loop μ-loop
-add-page c = ?
+add-page c = search (needs, set-page)
 
--- src/resume.rt:142:9
 sub-left : tie.Need-sub-left Inv-loop μ-loop
-sub-left c = ?
+sub-left c = search needs
 
--- src/resume.rt:136:5
 loop-less : tie.Need-loop-less Inv-loop μ-loop
-loop-less c = ?
+loop-less c = search needs
 
--- src/resume.rt:136:5
 loop-again : tie.Need-loop-again Inv-loop μ-loop
-loop-again c = ?
+loop-again c = search (needs, setting-next)
 
--- src/resume.rt:123:1
 same-length-2 : tie.Need-same-length-2 Inv-loop μ-loop
-same-length-2 c = ?
+same-length-2 c = search needs
 
--- src/resume.rt:123:1
 returns-2 : tie.Need-returns-2 Inv-loop μ-loop
-returns-2 c = ?
+returns-2 c = search (needs, set-all)
 
 pub set-flags-spec : {M : Type 1} → statement M
 set-flags-spec =

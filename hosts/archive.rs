@@ -93,6 +93,14 @@ pub struct Recorded {
     pub flag: u32,
 }
 
+/// The answer of a snapshot: the records and the pages that it wrote.
+#[repr(C)]
+pub struct Made {
+    pub number: u32,
+    pub records: u64,
+    pub pages: u64,
+}
+
 /// The storage that a call on a memory is lent: a slot number and a flag for each page, and the slots.
 pub struct Lent<'a> {
     pub slots: &'a mut [u16],
@@ -312,7 +320,7 @@ pub struct Sources<'a> {
 }
 
 mod lent {
-    use super::{ContextStored, Found, MachineAnswer, Recorded};
+    use super::{ContextStored, Found, Machine, MachineAnswer, Made, Recorded};
 
     /// The functions that are lent a memory's storage with its records, or sources, `latchpebble_..`.
     macro_rules! functions {
@@ -333,6 +341,8 @@ mod lent {
         fn context_store_bytes(*mut u16, usize, *mut u8, usize, *mut u8, usize, *mut u64, usize, *const u64, usize, *const u8, usize, u64, u64, u64, u64, u64, u64, u64) -> ContextStored;
         fn mark_program(*const u16, usize, *mut u8, usize, *const u8, usize, *mut u64, usize, *const u64, usize, u64, u64, u64, u64) -> u32;
         fn page_record(*const u16, usize, *const u8, usize, *const u8, usize, *const u64, usize, u64, u64, u64) -> Recorded;
+        fn make_snapshot(*const u16, usize, *const u8, usize, *const u8, usize, *const u64, usize, *mut u8, usize, *mut u8, usize, Machine) -> Made;
+        fn resume(*mut u16, usize, *mut u8, usize, *mut u8, usize, *mut u64, usize, *const u64, usize, *const u8, usize, *const u8, usize, *const u8, usize, Machine) -> MachineAnswer;
     }
 }
 
@@ -399,4 +409,36 @@ pub fn mark_program(tracked: Tracked, actions: &[u64], memory: Memory, id: u64, 
 
 pub fn page_record(tracked: Tracked, memory: Memory, page: u64) -> Recorded {
     lend_tracked!(page_record, tracked, memory.size, page, memory.used)
+}
+
+// ---- snapshots
+
+/// A snapshot's record file and page file.
+#[derive(Clone, Copy)]
+pub struct Files<'a> {
+    pub records: &'a [u8],
+    pub pages: &'a [u8],
+}
+
+/// The two outputs are those of the record file and of the page file.
+pub fn make_snapshot(tracked: Tracked, file: &mut [u8], pages: &mut [u8], machine: Machine) -> Made {
+    lend_tracked!(make_snapshot, tracked, file.as_mut_ptr(), file.len(), pages.as_mut_ptr(), pages.len(), machine)
+}
+
+pub fn resume(tracked: Tracked, sources: Sources, files: Files, machine: Machine) -> MachineAnswer {
+    let Sources { directory, bytes } = sources;
+    let Files { records, pages } = files;
+    lend_tracked!(
+        resume,
+        tracked,
+        directory.as_ptr(),
+        directory.len(),
+        bytes.as_ptr(),
+        bytes.len(),
+        records.as_ptr(),
+        records.len(),
+        pages.as_ptr(),
+        pages.len(),
+        machine
+    )
 }

@@ -1,27 +1,32 @@
 //! The port behind the call script, over the archive of crate `host`.
 //!
-//! It answers what the archive has: rounding, page indices, and the calls on a memory, on a machine's numbers, of
-//! sources and of tracking. A call that the archive does not have (snapshot, resume and their files) is answered
-//! `?`, like a line that is none of the format.
+//! The storage that `fresh` makes is held here and lent to each call, and so are the sources and the pairs of files. The
+//! flag calls, the reservation and `dump` have no letter: a machine with an even number asks the W^X memory for them, one
+//! with an odd number the sparse memory. The numbers that an odd one lends have a part of an entry or of an action after
+//! the last whole one.
 //!
-//! The storage that `fresh` makes is held here and lent to each call, and so are the sources. The flag calls, the
-//! reservation and `dump` have no letter: a machine with an even number asks the W^X memory for them, one with an odd
-//! number the sparse memory. The numbers that an odd one lends have a part of an entry or of an action after the last
-//! whole one.
+//! No answer shows what a snapshot leaves in its outputs past what it wrote, or where it refuses. It is looked at here:
+//! were a byte of it another than before, the runner would say so and end with status 3.
 
 mod archive;
-// what is read of a line whose call is not in the archive
-#[allow(dead_code)]
 mod callscript;
 
 use archive::{
-    Calls, ContextStored, Found, Fresh, Lent, MachineAnswer, Recorded, SPARSE, Sources, Stored, Tracked, Value, WXORX,
+    Calls, ContextStored, Files, Found, Fresh, Lent, MachineAnswer, Made, Recorded, SPARSE, Sources, Stored, Tracked,
+    Value, WXORX,
 };
 use callscript::{Action, Call, Fault, Host, Layer, Line, MOST_BYTES, UNWRITTEN, Width, hash, hex};
+use std::collections::HashMap;
 
 const PAGE: u64 = 4096;
 /// The words of a page's record.
 const RECORD: usize = 3;
+/// A record file's records: the bytes of each, how many stand before its runs, and where a source run has its id.
+const FILE_RECORD: u64 = 48;
+const BEFORE_RUNS: usize = 9;
+const RUN_ID: usize = 24;
+/// An output of a snapshot is lent with no more bytes than this: four times what the largest page file has.
+const MOST_ROOM: u64 = 1 << 24;
 /// What the storage of a fresh machine is filled with before the call.
 const BEFORE: u8 = 0xa5;
 /// The most pages that storage is made for. It is far above the most that a memory can have: every size that
@@ -131,6 +136,49 @@ struct HeldSources {
     bytes: Vec<u8>,
 }
 
+/// A record file and its page file.
+struct Pair {
+    records: Vec<u8>,
+    pages: Vec<u8>,
+}
+
+impl Pair {
+    fn lent(&self) -> Files<'_> {
+        Files { records: &self.records, pages: &self.pages }
+    }
+
+    /// The id of the first run, were it a source run; 0 where there is none.
+    fn first_id(&self) -> u64 {
+        let run = self.records.get(BEFORE_RUNS * FILE_RECORD as usize + RUN_ID..);
+        run.and_then(|rest| rest.first_chunk()).map_or(0, |id| u64::from_le_bytes(*id))
+    }
+}
+
+/// By their names.
+type Pairs = HashMap<String, Pair>;
+
+fn no_files<T>(name: &str) -> Result<T, Fault> {
+    Err(format!("no files {name:.40}"))
+}
+
+/// The front of an output, so many bytes: all that was written of it.
+fn front(mut out: Vec<u8>, written: u64) -> Vec<u8> {
+    match usize::try_from(written).ok().and_then(|written| out.get(written..)) {
+        Some(rest) if rest.iter().all(|byte| *byte == UNWRITTEN) => {
+            out.truncate(written as usize);
+            out
+        }
+        Some(_) => broken("a snapshot wrote bytes past those that it answers for"),
+        None => broken("a snapshot answers for more bytes than its output has"),
+    }
+}
+
+/// Says what no answer shows, and ends the runner.
+fn broken(what: &str) -> ! {
+    eprintln!("port: BROKEN: {what}");
+    std::process::exit(3)
+}
+
 fn calls(layer: Layer) -> &'static Calls {
     match layer {
         Layer::Sparse => &SPARSE,
@@ -174,7 +222,13 @@ impl Machine {
     }
 
     /// `out` is written over: each output is made in it.
-    fn call(&mut self, sources: &HeldSources, out: &mut Vec<u8>, call: Call) -> Result<String, Fault> {
+    fn call(
+        &mut self,
+        sources: &HeldSources,
+        pairs: &mut Pairs,
+        out: &mut Vec<u8>,
+        call: Call,
+    ) -> Result<String, Fault> {
         let (own, numbers, memory) = (self.own(), self.numbers, self.numbers.memory);
         let storage = &mut self.storage;
         let mut output = |room| {
@@ -289,10 +343,37 @@ impl Machine {
                 let actions = self.actions(&actions);
                 archive::mark_program(self.storage.tracked(), &actions, memory, id, offset).to_string()
             }
+            Call::Snapshot { name, records, pages } => self.snapshot(pairs, name, records, pages),
+            Call::Resume { name } => match pairs.get(&name) {
+                Some(pair) => self.resume(sources, pair),
+                None => return no_files(&name),
+            },
             Call::Dump => self.dump(out),
             Call::Raw => self.raw(),
-            Call::Snapshot { .. } | Call::Resume { .. } => return not_in_the_archive(),
         })
+    }
+
+    /// The outputs have so many bytes. A refused snapshot has written none.
+    fn snapshot(&mut self, pairs: &mut Pairs, name: String, records: u64, pages: u64) -> String {
+        let room = |bytes: u64| vec![UNWRITTEN; bytes.min(MOST_ROOM) as usize];
+        let (mut file, mut images) = (room(records), room(pages));
+        let tracked = self.storage.tracked();
+        let Made { number, records, pages } = archive::make_snapshot(tracked, &mut file, &mut images, self.numbers);
+        let written = |count: u64, each| if number == 0 { count.saturating_mul(each) } else { 0 };
+        let record_file = front(file, written(records, FILE_RECORD));
+        let page_file = front(images, written(pages, PAGE));
+        if number == 0 {
+            pairs.insert(name, Pair { records: record_file, pages: page_file });
+        }
+        format!("{number} {records} {pages}")
+    }
+
+    fn resume(&mut self, sources: &HeldSources, pair: &Pair) -> String {
+        let lent = Sources { directory: &self.directory(sources, pair.first_id()), bytes: &sources.bytes };
+        let tracked = self.storage.tracked();
+        let MachineAnswer { number, machine } = archive::resume(tracked, lent, pair.lent(), self.numbers);
+        self.numbers = machine;
+        number.to_string()
     }
 
     /// By the port's own loads, flags and records.
@@ -337,15 +418,12 @@ impl Machine {
     }
 }
 
-fn not_in_the_archive<T>() -> Result<T, Fault> {
-    Err("not in the archive".into())
-}
-
 // ---- the host
 
 struct Port {
     machines: [Option<Machine>; 10],
     sources: HeldSources,
+    pairs: Pairs,
     out: Vec<u8>,
 }
 
@@ -391,8 +469,10 @@ impl Host for Port {
                 self.sources.directory.extend([id, start, length]);
                 return Ok(None);
             }
-            // nothing asks for files yet
-            Line::File { .. } => return Ok(None),
+            Line::File { name, records, pages } => {
+                self.pairs.insert(name, Pair { records, pages });
+                return Ok(None);
+            }
             Line::Lend { machine, lengths } => {
                 self.machine(machine)?.storage.lend(lengths)?;
                 return Ok(None);
@@ -412,11 +492,14 @@ impl Host for Port {
                 let archive::Indices { number, first, last } = archive::get_page_indices(address, size);
                 format!("{number} {first} {last}")
             }
-            Line::Show { .. } => return not_in_the_archive(),
+            Line::Show { name } => match self.pairs.get(&name) {
+                Some(Pair { records, pages }) => format!("0 {} {} {}", hex(records), pages.len(), hash(pages)),
+                None => return no_files(&name),
+            },
             Line::Call { machine, call } => {
-                let Port { machines, sources, out } = self;
+                let Port { machines, sources, pairs, out } = self;
                 let there = machines[machine].as_mut().ok_or_else(|| absent(machine))?;
-                there.call(sources, out, call)?
+                there.call(sources, pairs, out, call)?
             }
         }))
     }
@@ -424,5 +507,5 @@ impl Host for Port {
 
 fn main() -> std::process::ExitCode {
     let machines = [const { None }; 10];
-    callscript::main_of(&mut Port { machines, sources: HeldSources::default(), out: vec![] })
+    callscript::main_of(&mut Port { machines, sources: HeldSources::default(), pairs: Pairs::new(), out: vec![] })
 }

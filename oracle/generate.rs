@@ -193,7 +193,7 @@ type Kind = fn(&mut Generator);
 type Theme = &'static [(u64, Kind)];
 
 /// Each theme: how often which kind.
-const THEMES: [Theme; 4] = [
+const THEMES: [Theme; 5] = [
     &[
         (8, Generator::store_bytes),
         (8, Generator::store_byte),
@@ -259,6 +259,28 @@ const THEMES: [Theme; 4] = [
         (2, Generator::load_data),
         (1, Generator::arithmetic),
     ],
+    &[
+        (4, Generator::handover),
+        (4, Generator::corrected),
+        (3, Generator::neighbours),
+        (4, Generator::good_file),
+        (3, Generator::older),
+        (2, Generator::record_file),
+        (2, Generator::resume),
+        (3, Generator::snapshot),
+        (4, Generator::context),
+        (3, Generator::track),
+        (2, Generator::untrack),
+        (2, Generator::mark),
+        (3, Generator::flag),
+        (4, Generator::store_word),
+        (2, Generator::store_bytes),
+        (2, Generator::init_pages),
+        (2, Generator::register),
+        (2, Generator::pc),
+        (2, Generator::cycles),
+        (1, Generator::reservation),
+    ],
 ];
 
 /// What a machine is called with after a handover, beside the same calls on
@@ -323,6 +345,7 @@ impl Generator {
         self.first_sources();
         for k in 0..10 {
             self.set_up(format!("file m{k} - -"));
+            self.set_up(format!("file n{k} - -"));
         }
         self.set_up("file made - -".into());
         while self.calls < self.wanted {
@@ -1065,9 +1088,10 @@ impl Generator {
         self.risky_call(&format!("track {start} {length} {id} {offset}"), ends == Tracked::Stopped);
     }
 
-    /// Two or three pages side by side, each tracked by itself, so that each
-    /// condition of merging decides by itself. Their flags are made alike
-    /// first; what differs is chosen for each page.
+    /// Two to four pages side by side, each tracked by itself, so that each
+    /// condition of merging decides by itself. Half of them have flags alike
+    /// and differ in one thing, at one page; for the others what differs is
+    /// chosen for each page.
     fn neighbours(&mut self) {
         let pages = self.here().pages();
         if pages < 2 {
@@ -1076,28 +1100,42 @@ impl Generator {
         let count = self.random.between(2, pages.min(4));
         let first = self.random.below(pages - count + 1);
         let (mut id, mut offset) = (self.random.below(3), PAGE * self.random.below(3));
+        let other = self.random.one_in(2).then(|| first + self.random.below(count));
         for page in first..first + count {
-            if self.random.one_in(2) {
+            if other.is_some() || self.random.one_in(2) {
                 self.call(&format!("clear_flag {page} 255"));
             }
         }
         for page in first..first + count {
             let flag = self.random.pick(&[1, 2, 4, 8]);
-            match self.random.below(10) {
+            let differs = match other {
+                None => self.random.below(10),
+                Some(other) if other == page => self.random.below(7),
+                Some(_) => 9,
+            };
+            match differs {
                 0 => offset += PAGE,
                 1 => offset = offset.wrapping_sub(1),
                 2 => id += 1,
                 3 => self.call(&format!("set_flag {page} {flag}")),
-                4 | 5 => continue,
+                4 => continue,
+                // the offsets go on over a page that is not tracked
+                5 => {
+                    self.call(&format!("untrack {} 1", page * PAGE));
+                    continue;
+                }
                 _ => {}
             }
             self.risky_call(&format!("track {} {PAGE} {id} {offset}", page * PAGE), offset.checked_add(PAGE).is_none());
-            if self.random.one_in(8) {
+            if other.is_none() && self.random.one_in(8) {
                 self.call(&format!("set_flag {page} {flag}"));
             }
             offset = offset.wrapping_add(PAGE);
         }
-        if self.random.one_in(2) {
+        if other.is_some() {
+            self.snapshot_into(self.here(), false);
+            self.show();
+        } else if self.random.one_in(2) {
             self.snapshot();
         }
     }
@@ -1191,15 +1229,19 @@ impl Generator {
     // ---- snapshot and resume
 
     fn snapshot(&mut self) {
-        let short = self.random.one_in(3);
+        let short = self.random.one_in(2);
         self.snapshot_into(self.here(), short);
         if self.random.one_in(2) {
             self.show();
         }
     }
 
-    /// A snapshot of each machine into its own pair of files.
+    /// A snapshot of each machine into its own pair of files: `m` and the machine's number.
     fn snapshot_into(&mut self, shape: Shape, short: bool) {
+        self.snapshot_named("m", shape, short);
+    }
+
+    fn snapshot_named(&mut self, name: &str, shape: Shape, short: bool) {
         let pages = shape.pages();
         let mut records = (9 + pages) * 48;
         let mut bytes = shape.size;
@@ -1221,7 +1263,7 @@ impl Generator {
         }
         for i in 0..self.on.len() {
             let k = self.on[i];
-            self.answered(format!("{k} snapshot m{k} {records} {bytes}"));
+            self.answered(format!("{k} snapshot {name}{k} {records} {bytes}"));
         }
     }
 
@@ -1233,9 +1275,10 @@ impl Generator {
 
     /// Its own last snapshot, or any pair of files, on this machine.
     fn resume(&mut self) {
-        let pair = match self.random.below(6) {
+        let pair = match self.random.below(7) {
             0 => "made".into(),
             1..=3 => format!("m{}", self.on[0]),
+            4 => format!("n{}", self.random.below(10)),
             _ => format!("m{}", self.random.below(10)),
         };
         self.call(&format!("resume {pair}"));
@@ -1256,7 +1299,7 @@ impl Generator {
         self.snapshot_into(shape, false);
         let j = (k + self.random.between(1, 9) as usize) % 10;
         let other = match self.random.below(12) {
-            0 => Shape { size: shape.size.saturating_sub(PAGE), ..shape },
+            0 | 3 => Shape { size: shape.size.saturating_sub(PAGE * self.random.between(1, 3)), ..shape },
             1 if shape.size < MAXIMUM => Shape { size: shape.size + PAGE, slots: shape.slots + 1, ..shape },
             2 => Shape { version: self.random.pick(&[0, 1, 2, 3]), ..shape },
             _ => shape,
@@ -1292,6 +1335,126 @@ impl Generator {
         self.show();
         self.call("dump");
         self.turn_to(k);
+    }
+
+    /// Pages from a source, of which some are stored to: those go out as bytes, the others as source runs.
+    fn corrected(&mut self) {
+        let pages = self.here().pages();
+        if pages < 2 {
+            return self.context();
+        }
+        let count = self.random.between(2, pages.min(6));
+        let first = self.random.below(pages - count + 1);
+        for page in first..first + count {
+            if self.random.one_in(3) {
+                let flags = self.random.pick(&[2, 3, 255]);
+                self.call(&format!("clear_flag {page} {flags}"));
+            }
+        }
+        let (id, past) = (self.random.pick(&[20, 20, TOP, 2]), self.random.pick(&[0, 0, 100, PAGE]));
+        let (address, size_address) = (first * PAGE + past % PAGE, 8 * self.random.below(512 * pages));
+        self.call(&format!("context {address} {id} {past} {} {size_address}", count * PAGE));
+        if self.random.one_in(3) {
+            self.snapshot_named("n", self.here(), false);
+        }
+        for _ in 0..self.random.below(4) {
+            let edge = (first + self.random.below(count)) * PAGE;
+            let (at, value) = (self.random.near(edge.max(9), 9), self.number());
+            self.call(&format!("w.store64 {at} {value}"));
+        }
+        if self.random.one_in(4) {
+            let (page, flag) = (first + self.random.below(count), self.random.pick(&[1, 2, 8, DIRTY]));
+            self.call(&format!("set_flag {page} {flag}"));
+        }
+        self.snapshot_into(self.here(), false);
+        self.show();
+        if self.random.one_in(2) {
+            self.handover();
+        }
+    }
+
+    /// Two snapshots of a machine with calls between them. The older or both are resumed on a machine that was
+    /// called before, which may be the same.
+    fn older(&mut self) {
+        let k = self.on[0];
+        let shape = self.shape_of(k);
+        if shape.pages() > 64 {
+            return;
+        }
+        self.snapshot_named("n", shape, false);
+        for _ in 0..self.random.between(1, 6) {
+            self.some_call(FURTHER);
+        }
+        self.snapshot_named("m", shape, false);
+        let there: Vec<usize> = (0..10).filter(|&k| matches!(self.machines[k], Machine::There(_))).collect();
+        let j = if self.random.one_in(3) { k } else { self.random.pick(&there) };
+        self.turn_to(j);
+        for pair in ["m", "n", "m"] {
+            if self.random.one_in(2) {
+                if self.random.one_in(2) {
+                    let page = self.random.below(self.here().pages());
+                    self.call(&format!("clear_flag {page} 2"));
+                }
+                self.call(&format!("resume {pair}{k}"));
+                self.call("dump");
+            }
+        }
+        self.snapshot_into(self.here(), false);
+        self.show();
+        self.turn_to(k);
+    }
+
+    /// A pair of files in form whose runs lie in the machine, apart from each other, from items that have their
+    /// bytes. It is resumed on a machine that is fresh, or that is not.
+    fn good_file(&mut self) {
+        let pages = self.here().pages();
+        if pages > 64 {
+            return;
+        }
+        let mut records = self.state_records();
+        let (mut sources, mut dirty) = (vec![], vec![]);
+        let (mut page, mut place) = (self.random.below(2), 0);
+        while page < pages {
+            let count = self.random.between(1, 3.min(pages - page));
+            let (address, flag) = (page * PAGE, self.flags());
+            match self.random.below(5) {
+                0 | 1 => {
+                    let id = self.random.pick(&[20, 20, TOP, 26, 1]);
+                    let item = self.length_of(id).unwrap_or(0);
+                    let room = item.saturating_sub(count * PAGE);
+                    let any = self.random.below(room + 1);
+                    let offset = self.random.pick(&[0, room, any, PAGE.min(room)]);
+                    sources.push([3, address, flag, id, offset, count * PAGE]);
+                }
+                2 | 3 => {
+                    dirty.push([4, address, flag | self.random.pick(&[DIRTY, 0]), count, place, 0]);
+                    place += count;
+                }
+                _ => {}
+            }
+            page += count;
+        }
+        records.append(&mut sources);
+        records.append(&mut dirty);
+        let bytes = self.bytes(place * PAGE);
+        self.set_up(format!("file made {} {bytes}", hex(&record_bytes(&records))));
+        match self.random.below(4) {
+            0 => {
+                let page = self.random.below(pages);
+                self.call(&format!("clear_flag {page} 255"));
+            }
+            1 => {}
+            _ => self.turn_fresh(self.on[0]),
+        }
+        self.call("resume made");
+        for words in ["dump", "pc", "lr", "register 5"] {
+            self.call(words);
+        }
+        for _ in 0..self.random.below(4) {
+            self.some_call(FURTHER);
+        }
+        self.snapshot_into(self.here(), false);
+        self.show();
     }
 
     /// A pair of files written by hand, good or broken in one way, is resumed.
@@ -1476,7 +1639,11 @@ impl Generator {
             }
         }
         for _ in 0..self.random.between(1, 4) {
-            self.some_call(FURTHER);
+            match self.random.below(5) {
+                0 => self.snapshot(),
+                1 => self.resume(),
+                _ => self.some_call(FURTHER),
+            }
             self.call("raw");
         }
         self.set_up(format!("lend {k}"));

@@ -10,6 +10,7 @@ use Rattle.machine.specs.declared.Machine.{Machine}
 use Rattle.machine.specs.Numbers.{machineOf}
 use Rattle.machine.specs.Fresh.{Tracked, LentMachine}
 use Rattle.tracking.specs.Sources.{Data}
+use Rattle.snapshot.specs.MakeSnapshot as snapshot
 use Rattle.host.specs.declared.Stored.{Stored}
 use Rattle.host.specs.declared.Fresh.{Fresh}
 use Rattle.host.specs.declared.Value.{Value}
@@ -18,7 +19,8 @@ use Rattle.host.specs.declared.MachineAnswer.{MachineAnswer}
 use Rattle.host.specs.declared.Found.{Found}
 use Rattle.host.specs.declared.ContextStored.{ContextStored}
 use Rattle.host.specs.declared.Recorded.{Recorded}
-use Rattle.host.specs.Handed.{Left, lent, handed, handedFresh, handedValue, handedIndices, handedMachine, lentTracked, handedFound, LeftContext, handedContext, ShownRecord, handedRecord}
+use Rattle.host.specs.declared.Made.{Made}
+use Rattle.host.specs.Handed.{Left, lent, handed, handedFresh, handedValue, handedIndices, handedMachine, lentTracked, handedFound, LeftContext, handedContext, ShownRecord, handedRecord, handedMade}
 
 pub stored-once : (r q : Stored) (slots flags area slots₂ flags₂ area₂ : List ℕ) (x : Left)
     → handed r slots flags area ≡ x → handed q slots₂ flags₂ area₂ ≡ x
@@ -142,3 +144,14 @@ record-once r q m x e f =
       offset = (z i) .0 .offset;
       flag = (z i) .0 .flag;
     }
+
+-- ---- a snapshot, with both its outputs
+
+pub made-once : (r q : Made) (file pages file₂ pages₂ : List ℕ) (m : LentMachine) (x : snapshot.Made × LentMachine)
+    → handedMade r file pages m ≡ x → handedMade q file₂ pages₂ m ≡ x → (r ≡ q) × (file ≡ file₂) × (pages ≡ pages₂)
+made-once r q file pages file₂ pages₂ m x e f =
+    let z : handedMade r file pages m ≡ handedMade q file₂ pages₂ m = e ∙ sym f in (
+      λ i. record { number = (z i) .0 .number; records = (z i) .0 .records; pages = (z i) .0 .pages },
+      ap (λ (y : snapshot.Made × LentMachine). y .0 .file) z,
+      ap (λ (y : snapshot.Made × LentMachine). y .0 .body) z,
+    )

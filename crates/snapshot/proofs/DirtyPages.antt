@@ -65,7 +65,7 @@ merging =
     }
 
 -- a page is joined as a run of one page
-join-is : (p f : ℕ) (l : List Run) → joinDirty p f l ≡ joined meets both (aRun p f 1) l
+pub join-is : (p f : ℕ) (l : List Run) → joinDirty p f l ≡ joined meets both (aRun p f 1) l
 unfolding joinDirty neighbours joined
 join-is p f [] = refl
 join-is p f (r ∷ rs) = refl
@@ -190,7 +190,7 @@ module _ {flags : List ℕ} {page flag next : ℕ} (g : Stretch flags page flag 
       let q : bitAnd (flagAt flags next) dirty ≢ 0 = rw (e, g .its) d in
       record {
         its = g .its;
-        so-far = g .so-far ∙ rw (dirty-joins flags next h q, e, ← y) (join-page page flag (next - page) next (dirtyFrom flags (next + 1)) z);
+        so-far = g .so-far ∙ rw (dirty-joins flags next h q, e, ← y) (join-page page flag (next - page) next _ z);
         above = omega arith;
         within = omega arith;
       }

@@ -74,17 +74,23 @@ pub entry-read : (flags records : List ℕ) (p id offset flag : ℕ) (e : Tracki
 entry-read flags records p id offset flag e q t = sym q ∙ t
 
 -- the offset of a page's entry is a word of its record
-offset-of : (flags records : List ℕ) (p id offset flag : ℕ) → entryIn flags records p ≡ Tracked id offset flag
-    → offset ≡ getD records (p * recordWords + 1) 0
+abbrev Held : List ℕ → ℕ → ℕ → ℕ → ℕ → Tracking → Type 0
+Held records p id offset flag t = t ≡ Tracked id offset flag → offset ≡ getD records (p * recordWords + 1) 0
+
+untracked-held : (records : List ℕ) (p id offset flag : ℕ) → Held records p id offset flag Untracked
+untracked-held records p id offset flag e =
+    let z : _≡_ {A = ℕ} 0 1 = cc in
+    absurd (omega arith)
+
+offset-held : (flags records : List ℕ) (p id offset flag : ℕ) → Held records p id offset flag (entryIn flags records p)
 unfolding masked recordOf
-offset-of flags records p id offset flag =
-    cases (λ (t : Tracking). t ≡ Tracked id offset flag → offset ≡ getD records (p * recordWords + 1) 0)
-    (eqb (bitAnd (getD flags p 0) dirty) 0) _ _
+offset-held flags records p id offset flag =
+    cases (Held records p id offset flag) (eqb (bitAnd (getD flags p 0) dirty) 0) _ _
     (λ c.
-    cases (λ (t : Tracking). t ≡ Tracked id offset flag → offset ≡ getD records (p * recordWords + 1) 0) (ltb (getD records (p * recordWords + 2) 0) trackedMark) _ _
-    (λ d e. let z : _≡_ {A = ℕ} 0 1 = cc in absurd (omega arith))
+    cases (Held records p id offset flag) (ltb (getD records (p * recordWords + 2) 0) trackedMark) _ _
+    (λ d. untracked-held records p id offset flag)
     (λ d e. cc))
-    (λ c e. let z : _≡_ {A = ℕ} 0 1 = cc in absurd (omega arith))
+    (λ c. untracked-held records p id offset flag)
 
 -- ---- page by page
 
@@ -148,7 +154,7 @@ merging =
           rw z;
     }
 
-join-is : (r : SourceRun) (l : List SourceRun) → joinSource r l ≡ joined continues both r l
+pub join-is : (r : SourceRun) (l : List SourceRun) → joinSource r l ≡ joined continues both r l
 unfolding joinSource joined
 join-is r [] = refl
 join-is r (s ∷ ss) = refl
@@ -165,7 +171,7 @@ join-page p q flag id offset at n l e o =
     let z : n * pageSize + pageSize ≡ (n + 1) * pageSize = omega arith in
     ap (joined continues both r) (join-is s l)
     ∙ joined-both continues both merging r s l
-    (rw (eq-eqb (q * pageSize) (p * pageSize + n * pageSize) y, eq-eqb flag flag refl, eq-eqb id id refl, eq-eqb (at + pageSize) (offset + n * pageSize) o))
+    (rw (eq-eqb (q * pageSize) _ y, eq-eqb flag flag refl, eq-eqb id id refl, eq-eqb (at + pageSize) _ o))
     ∙ rw z
 
 -- ---- where a run ends
@@ -256,8 +262,9 @@ pub stretch : (flags records : List ℕ) (page flag id offset : ℕ) → page < 
     → entryIn flags records page ≡ Tracked id offset flag → Stretch flags records page flag id offset (page + 1) offset
 stretch flags records page flag id offset h e =
     let z : (page + 1 - page) * pageSize ≡ pageSize = omega arith in
+    let j = join-is (pageRun page flag id offset) (sourcesFrom flags records (page + 1)) in
     record {
-      so-far = rw z (sources-joins flags records page h id offset flag e ∙ join-is (pageRun page flag id offset) (sourcesFrom flags records (page + 1)));
+      so-far = rw z (sources-joins flags records page h id offset flag e ∙ j);
       last = omega arith;
       above = omega arith;
       within = omega arith;
@@ -291,7 +298,7 @@ module _ {flags records : List ℕ} {page flag id offset next at : ℕ} (g : Str
     pub stretch-fits : b ≡ true → ((i : ℕ) → Fits w64 (getD records i 0)) → Fits w64 (at + pageSize)
     stretch-fits t w =
         let x : entryIn flags records next ≡ Tracked id (at + pageSize) flag = sym q ∙ follows-told e flag id at (sym f ∙ t) in
-        let y : at + pageSize ≡ getD records (next * recordWords + 1) 0 = offset-of flags records next id (at + pageSize) flag x in
+        let y : at + pageSize ≡ getD records (next * recordWords + 1) 0 = offset-held flags records next id (at + pageSize) flag x in
         rw y (w (next * recordWords + 1))
 
     pub stretch-on : b ≡ true → Stretch flags records page flag id offset (next + 1) (at + pageSize)

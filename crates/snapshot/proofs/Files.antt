@@ -30,28 +30,19 @@ use Rattle.snapshot.specs.declared.make.SourceSpan.{SourceSpan}
 use Rattle.snapshot.specs.declared.make.SourceSpan.the-variants as source-span
 use Rattle.snapshot.proofs.DirtyPages.{dirty-past}
 use Rattle.snapshot.proofs.SourcePages.{sources-past}
+use Rattle.snapshot.proofs.Counting.{dirty-inside, source-inside}
 use Rattle.snapshot.proofs.Writing.{Recording, recording-first, recording-more, recording-next, recording-done, length-content, pages-content}
 
 -- ---- source runs
 
--- a run that was found is inside the pages
+-- an address and a size of a run that was found
 module _ (size p page flag id offset pages : ℕ) (found : SourceSpan) (f : found ≡ source-span.Run page flag id offset pages)
-    (i : SourceWithin size p found) where
-  inside-run : Inside size p page pages
-  inside-run = rw f at i
+    (i : SourceWithin size p found) (h : size * pageSize ≤ maximum) where
+  pub source-start : page * pageSize < 2 ^ 64
+  source-start = omega (arith, source-inside size p page flag id offset pages found f i .within)
 
-  pub source-less : p < size → size - (page + pages) < size - p
-  source-less h = let r = inside-run in omega (arith, r .above, r .some)
-
-  module _ (h : size * pageSize ≤ maximum) where
-    pub source-start : page * pageSize < 2 ^ 64
-    source-start = omega (arith, inside-run .within)
-
-    pub source-size : pages * pageSize < 2 ^ 64
-    source-size = omega (arith, inside-run .within)
-
-    pub source-end : page + pages < 2 ^ 64
-    source-end = omega (arith, inside-run .within)
+  pub source-size : pages * pageSize < 2 ^ 64
+  source-size = omega (arith, source-inside size p page flag id offset pages found f i .within)
 
 -- those from page p on are left
 pub record WritingSources (flags records file₀ : List ℕ) (from : ℕ) (file : List ℕ) (at p : ℕ) : Type 0 where
@@ -80,7 +71,7 @@ module _ (flags records file₀ : List ℕ) (from : ℕ) where
       sources-next page flag id offset pages f i now q =
           let r : sourcesFrom flags records p
           ≡ sourceRun (page * pageSize) flag id offset (pages * pageSize) ∷ sourcesFrom flags records (page + pages) = rw f at e in
-          record { within = inside-run (length flags) p page flag id offset pages found f i .within; recorded = recording-next _ _ (rw r at (g .recorded)) now q }
+          record { within = source-inside (length flags) p page flag id offset pages found f i .within; recorded = recording-next _ _ (rw r at (g .recorded)) now q }
 
       -- no run is left
       pub sources-none : found ≡ source-span.End
@@ -95,7 +86,7 @@ module _ (flags records file₀ : List ℕ) (from : ℕ) where
 -- ---- dirty runs
 
 -- runs that are met: the first is, and the others are, however many were counted before
-met-first : (b : Bool) (c : Count) (k : ℕ) → b ≡ eqb k 0 → cond b c (counts k 0 0) .number ≡ 0 → (k ≡ 0) × (c .number ≡ 0)
+pub met-first : (b : Bool) (c : Count) (k : ℕ) → b ≡ eqb k 0 → cond b c (counts k 0 0) .number ≡ 0 → (k ≡ 0) × (c .number ≡ 0)
 met-first true c k e q = (eqb-true k 0 (sym e), q)
 met-first false c k e q = absurd (let y : false ≡ true = e ∙ eq-eqb k 0 q in let x : _≡_ {A = ℕ} 0 1 = cc in omega arith)
 
@@ -174,23 +165,17 @@ module _ (slots flags area file₀ pages₀ : List ℕ) (memory : Memory) (from 
         first-left : dirtyFrom flags p ≡ aRun page flag count ∷ dirtyFrom flags (page + count)
         first-left = rw f at e
 
-        inside-dirty : Inside (length flags) p page count
-        inside-dirty = rw f at i
+        inside : Inside (length flags) p page count
+        inside = dirty-inside (length flags) p page flag count found f i
 
-        pub dirty-inside : Fitting (length slots) (length flags) (length area) memory → page + count ≤ length slots
-        dirty-inside h = omega (arith, inside-dirty .within, h .slots-are, h .flags-are)
-
-        pub dirty-less : p < length flags → length flags - (page + count) < length flags - p
-        dirty-less h = let r = inside-dirty in omega (arith, r .above, r .some)
-
-        pub dirty-end : Fitting (length slots) (length flags) (length area) memory → page + count < 2 ^ 64
-        dirty-end h = omega (arith, inside-dirty .within, h .flags-are, h .small)
+        pub dirty-in-slots : Fitting (length slots) (length flags) (length area) memory → page + count ≤ length slots
+        dirty-in-slots h = omega (arith, inside .within, h .slots-are, h .flags-are)
 
         pub dirty-place : Fitting (length slots) (length flags) (length area) memory → length pages₀ < 2 ^ 64 → place + count < 2 ^ 64
-        dirty-place h l = omega (arith, inside-dirty .within, h .flags-are, h .small, g .room)
+        dirty-place h l = omega (arith, inside .within, h .flags-are, h .small, g .room)
 
         pub dirty-some : 0 < count
-        dirty-some = inside-dirty .some
+        dirty-some = inside .some
 
         pub dirty-met : metRun slots (memory .used) count page ≡ 0
         dirty-met = met-one slots (memory .used) (aRun page flag count) _ (rw first-left at (g .met-all))
@@ -215,7 +200,7 @@ module _ (slots flags area file₀ pages₀ : List ℕ) (memory : Memory) (from 
             let z : (place + count) * pageSize ≡ place * pageSize + length c = omega arith in
             let h : (place + (count + total (dirtyFrom flags (page + count)))) * pageSize ≤ length pages₀ = rw first-left at (g .room) in
             record {
-              within = inside-dirty .within;
+              within = inside .within;
               met-all = met-others slots (memory .used) (aRun page flag count) _ (rw first-left at (g .met-all));
               recorded = rw (pages-content slots area page flag count) at (recording-more _ _ (rw first-left at (g .recorded)) now q);
               paged = rw (z, w, written-next pages c _ (place * pageSize)) (rw first-left at (g .paged));

@@ -1,13 +1,16 @@
--- What holds of snapshot and resume. Runs of pages, and the first pass of a snapshot:
+-- What holds of snapshot and resume. Runs of pages, the first pass of a snapshot, and the runs said otherwise:
 pub mod Joining
 pub mod DirtyPages
 pub mod SourcePages
 pub mod Counting
--- the program on lent lists, and the second pass:
+pub mod Merged
+-- a snapshot's program on lent lists, its second pass, and each way in which the call ends:
 pub mod TakenNow
 pub mod Writing
 pub mod Files
--- resume:
+pub mod Answered
+-- resume, step by step, and what its refusals leave:
 pub mod Restored
 pub mod RestoredRuns
 pub mod Resumed
+pub mod Refused

@@ -4,14 +4,14 @@ use mathlib.Core.Bool.{Bool, true, false, cond}
 use mathlib.Core.List.{List, [], _∷_}
 use Prim.Native.Nat.{ℕ, zero, suc, _+_, _-_, _*_, _/_, _%_, _^_, _≤_, _<_, min}
 use native.Mathlib.Omega.{arith}
-use types.Run.{OneOf, miss}
+use types.Run.{miss}
 use lib.ListN.{length, take, drop, length-drop, drop-of-length-le}
 use lib.Seq.{take-nil}
 use lib.Dec.{eqb, ltb}
 use borrow.Author.Tests.{eq-eqb, ne-eqb, eqb-true, ltb-true}
 use Rattle.bits.specs.Rounding.{pageSize}
 use Rattle.words.specs.Bytes.{part}
-use Rattle.program.specs.Program.{ret, run, perform, each}
+use Rattle.program.specs.Program.{ret, run, perform}
 use Rattle.program.proofs.Laws.{then-done, then-stop, each-none, each-turn, each-stop}
 use Rattle.program.proofs.Lifted.{lifted}
 use Rattle.memory.specs.declared.Memory.{Memory}

@@ -2,16 +2,16 @@
 use mathlib.Core.Path.{_≡_, refl, sym, ap, _∙_}
 use mathlib.Core.Bool.{Bool, true, false, cond}
 use mathlib.Core.List.{List, [], _∷_, _++_}
-use Prim.Native.Nat.{ℕ, zero, suc, _+_, _-_, _*_, _/_, _%_, _^_, _≤_, _<_}
+use Prim.Native.Nat.{ℕ, zero, suc, _+_, _-_, _*_, _%_, _^_, _≤_, _<_}
 use native.Mathlib.Nat.{add-zero, sub-zero}
 use native.Mathlib.Numerals.{add-one}
 use native.Mathlib.Omega.{arith}
-use types.Run.{OneOf, miss}
+use types.Run.{miss}
 use lib.ListN.{length, take, drop, set, getD, length-set}
 use lib.Seq.{take-all, take-suc, take-suc-set}
 use lib.Dec.{eqb}
 use Rattle.bits.specs.Rounding.{pageSize}
-use Rattle.words.specs.Bytes.{part, filled}
+use Rattle.words.specs.Bytes.{filled}
 use Rattle.words.proofs.Filled.{length-filled}
 use Rattle.program.specs.Program.{Prog, ret, run, bind, after, andThen, eachIn}
 use Rattle.program.proofs.Laws.{after-run, then-done, then-stop}
@@ -21,7 +21,7 @@ use Rattle.recordfile.specs.declared.Record.{Record}
 use Rattle.recordfile.specs.declared.Record.the-variants.{Registers, Bad}
 use Rattle.recordfile.specs.Records.{countIn, recordAt, recordsFrom, recordsIn}
 use Rattle.recordfile.specs.Form.{leastRecords, registerRecords, registersARecord, inForm}
-use Rattle.recordfile.specs.Snapshots.{SourceRun, DirtyRun, Snapshot, pagesOf, registersIn, sourcesIn, dirtyIn, ofRecords, snapshotIn, registerRecordsOf, sourceRecords, dirtyRecords, recordsOf, pageFileOf}
+use Rattle.recordfile.specs.Snapshots.{SourceRun, DirtyRun, Snapshot, pagesOf, registersIn, sourcesIn, dirtyIn, ofRecords, registerRecordsOf, sourceRecords, dirtyRecords, recordsOf, pageFileOf}
 use Rattle.recordfile.proofs.Judging.{NotRegisters, from, from-one, from-none}
 use Rattle.recordfile.proofs.SnapshotRecords.{dirty-read, shaped-read}
 use Rattle.recordfile.proofs.SnapshotForm.{SnapshotIs, snapshot-is}
@@ -76,7 +76,7 @@ module _ (file : List ℕ) (size : ℕ) (ok : inForm file size ≡ 0) where
   values : registersIn (recordsIn file) ≡ held file (filled size 0) beside .snapshot .registers
   values = ap (λ (s : Snapshot). s .registers) (is-read file (filled size 0) beside)
 
-  -- "Eight .. registers of four"
+  -- "four values. Eight, in order."
   registers-count : length (registersIn (recordsIn file)) ≡ registersARecord * registerRecords
   registers-count = rw values (held file (filled size 0) beside .shaped .registers-are)
 
@@ -264,7 +264,7 @@ module _ (directory sources file pages : List ℕ) (s₀ : Tracked) where
     restored-all h = each-in-none does (restoreRecord directory sources pages) s ∙ (rw (from-none file (countIn file) i h) at (w .rest))
 
     module _ (h : i < countIn file) where
-      -- "at most 1,033 records"
+      -- "9 to 1,033 records"
       pub restoring-more : i + 1 < 2 ^ 64
       restoring-more = let k = accepted file (length pages) (w .in-form) .few in omega arith
 

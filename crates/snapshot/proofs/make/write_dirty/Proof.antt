@@ -2,7 +2,8 @@
 use Prim.Native.Nat.{_-_}
 use lib.ListN.{length}
 use borrow.Author.Needs.{needs}
-use Rattle.snapshot.proofs.Files.{WritingDirty, dirty-first, dirty-none, pages-none, dirty-inside, dirty-less, dirty-end, dirty-place, dirty-some, dirty-met, dirty-file, dirty-pages, dirty-next, dirty-done, pages-done}
+use Rattle.snapshot.proofs.Counting.{span-less, dirty-inside, dirty-end}
+use Rattle.snapshot.proofs.Files.{WritingDirty, dirty-first, dirty-none, pages-none, dirty-in-slots, dirty-place, dirty-some, dirty-met, dirty-file, dirty-pages, dirty-next, dirty-done, pages-done}
 use Rattle.snapshot.proofs.make.write_dirty.Statement.{statement}
 use Rattle.snapshot.proofs.make.write_dirty.Tie as tie
 
@@ -37,7 +38,7 @@ returns c = (search (needs, dirty-none), search (needs, pages-none))
 write-run-requires : tie.Need-write-run-requires Inv-loop μ-loop
 write-run-requires c κs = (
   search needs,
-  (search (needs, dirty-inside), (search (needs, dirty-some), (search (needs, dirty-met), (search (needs, dirty-file), search (needs, dirty-pages))))),
+  (search (needs, dirty-in-slots), (search (needs, dirty-some), (search (needs, dirty-met), (search (needs, dirty-file), search (needs, dirty-pages))))),
 )
 
 add-at : tie.Need-add-at Inv-loop μ-loop
@@ -50,7 +51,7 @@ add-p : tie.Need-add-p Inv-loop μ-loop
 add-p c = search (needs, dirty-end)
 
 loop-less : tie.Need-loop-less Inv-loop μ-loop
-loop-less c = search (needs, dirty-less)
+loop-less c = search (needs, span-less, dirty-inside)
 
 loop-again : tie.Need-loop-again Inv-loop μ-loop
 loop-again c = search (needs, dirty-next)

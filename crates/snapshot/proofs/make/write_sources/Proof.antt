@@ -2,7 +2,8 @@
 use Prim.Native.Nat.{_-_}
 use lib.ListN.{length}
 use borrow.Author.Needs.{needs}
-use Rattle.snapshot.proofs.Files.{WritingSources, source-less, source-start, source-size, source-end, sources-first, sources-next, sources-none, sources-done}
+use Rattle.snapshot.proofs.Counting.{span-less, source-inside, source-end}
+use Rattle.snapshot.proofs.Files.{WritingSources, source-start, source-size, sources-first, sources-next, sources-none, sources-done}
 use Rattle.snapshot.proofs.make.write_sources.Statement.{statement}
 use Rattle.snapshot.proofs.make.write_sources.Tie as tie
 
@@ -46,7 +47,7 @@ add-p : tie.Need-add-p Inv-loop μ-loop
 add-p c = search (needs, source-end)
 
 loop-less : tie.Need-loop-less Inv-loop μ-loop
-loop-less c = search (needs, source-less)
+loop-less c = search (needs, span-less, source-inside)
 
 loop-again : tie.Need-loop-again Inv-loop μ-loop
 loop-again c = search (needs, sources-next)

@@ -45,9 +45,16 @@ same-length-4 c = search (needs, c .before .before .before .before .before .befo
 
 returns : tie.Need-returns
 returns c =
-    machine-restored _ _ _ _ _ _ _ _ _ _ (c .before .before .before .before .before .before .before .before .before .before .before .before .before .before .before .before .before .before .before .before .before .before .before .before .before .before .before .before .before .before .before .before .before .before .pre .1) _ _ _ _ _ _ _ _ (c .before .before .before .before .before .before .before .before .before .before .before .before .before .before .before .before .before .before .before .before .before .before .before .before .untrack-all .ensures) (c .before .before .before .before .before .before .before .before .before .before .before .before .before .before .before .before .before .before .before .before .before .registers-in .ensures)
-    (c .before .before .before .before .before .before .before .before .before .before .before .before .before .before .before .before .before .before .before .before .with-registers .ensures) (c .before .before .before .before .before .before .before .before .before .before .before .before .before .before .before .before .before .before .before .update-pc .ensures) (c .before .before .before .before .before .before .before .before .before .before .before .before .before .before .before .before .before .before .commit-pc .ensures) (c .before .before .before .before .before .before .before .before .before .before .before .before .before .before .before .before .before .set-cycles .ensures)
-    (c .before .before .before .before .before .before .before .before .before .before .before .before .before .before .before .before .set-max-cycles .ensures) _ _ _ _ _ _ (c .before .before .before .before .before .before .before .before .before .before .restore-pages .ensures) (c .with-memory .ensures)
+    machine-restored _ _ _ _ _ _ _ _ _ _
+    (c .before .before .before .before .before .before .before .before .before .before .before .before .before .before .before .before .before .before .before .before .before .before .before .before .before .before .before .before .before .before .before .before .before .before .pre .1) _ _ _ _ _ _ _ _
+    (c .before .before .before .before .before .before .before .before .before .before .before .before .before .before .before .before .before .before .before .before .before .before .before .before .untrack-all .ensures)
+    (c .before .before .before .before .before .before .before .before .before .before .before .before .before .before .before .before .before .before .before .before .before .registers-in .ensures)
+    (c .before .before .before .before .before .before .before .before .before .before .before .before .before .before .before .before .before .before .before .before .with-registers .ensures)
+    (c .before .before .before .before .before .before .before .before .before .before .before .before .before .before .before .before .before .before .before .update-pc .ensures)
+    (c .before .before .before .before .before .before .before .before .before .before .before .before .before .before .before .before .before .before .commit-pc .ensures)
+    (c .before .before .before .before .before .before .before .before .before .before .before .before .before .before .before .before .before .set-cycles .ensures)
+    (c .before .before .before .before .before .before .before .before .before .before .before .before .before .before .before .before .set-max-cycles .ensures) _ _ _ _ _ _
+    (c .before .before .before .before .before .before .before .before .before .before .restore-pages .ensures) (c .with-memory .ensures)
 
 pub restore-spec : {M : Type 1} → statement M
 restore-spec =

@@ -18,15 +18,17 @@ is-done-requires c κs = search needs
 
 returns-2 : tie.Need-returns-2
 returns-2 c =
-    resume-malformed _ _ _ _ _ _ _ _ _ _ (c .before .before .before .before .lengths-fit .ensures) (c .before .before .before .if1 .taken) _ (c .before .before .in-form .ensures) _
-    (c .before .is-done .ensures) (c .if2 .left)
+    resume-malformed _ _ _ _ _ _ _ _ _ _ (c .before .before .before .before .lengths-fit .ensures) (c .before .before .before .if1 .taken) _ (c .before .before .in-form .ensures) _ (c .before .is-done .ensures)
+    (c .if2 .left)
 
 kept-in-requires : tie.Need-kept-in-requires
 kept-in-requires c κs = search needs
 
 returns-3 : tie.Need-returns-3
 returns-3 c =
-    resume-other _ _ _ _ _ _ _ _ _ _ (c .before .before .before .before .before .before .before .before .lengths-fit .ensures) (c .before .before .before .before .before .before .before .if1 .taken) _ (c .before .before .before .before .before .before .in-form .ensures) _ (c .before .before .before .before .before .is-done .ensures)
+    resume-other _ _ _ _ _ _ _ _ _ _
+    (c .before .before .before .before .before .before .before .before .lengths-fit .ensures) (c .before .before .before .before .before .before .before .if1 .taken) _
+    (c .before .before .before .before .before .before .in-form .ensures) _ (c .before .before .before .before .before .is-done .ensures)
     (c .before .before .before .before .if2 .taken) _ (c .before .before .before .kept-in .ensures) (c .if3 .taken)
 
 restore-requires : tie.Need-restore-requires
@@ -47,8 +49,14 @@ same-length-4 c = search needs
 
 returns-4 : tie.Need-returns-4
 returns-4 c =
-    resume-same _ _ _ _ _ _ _ _ _ _ (c .before .before .before .before .before .before .before .before .before .before .before .before .before .before .before .before .before .before .before .before .before .lengths-fit .ensures) (c .before .before .before .before .before .before .before .before .before .before .before .before .before .before .before .before .before .before .before .before .if1 .taken) _ (c .before .before .before .before .before .before .before .before .before .before .before .before .before .before .before .before .before .before .before .in-form .ensures) _ (c .before .before .before .before .before .before .before .before .before .before .before .before .before .before .before .before .before .before .is-done .ensures)
-    (c .before .before .before .before .before .before .before .before .before .before .before .before .before .before .before .before .before .if2 .taken) _ (c .before .before .before .before .before .before .before .before .before .before .before .before .before .before .before .before .kept-in .ensures) (c .before .before .before .before .before .before .before .before .before .before .before .before .before .if3 .left) _ (c .before .before .before .before .before .before .before .before .restore .ensures)
+    resume-same _ _ _ _ _ _ _ _ _ _
+    (c .before .before .before .before .before .before .before .before .before .before .before .before .before .before .before .before .before .before .before .before .before .lengths-fit .ensures)
+    (c .before .before .before .before .before .before .before .before .before .before .before .before .before .before .before .before .before .before .before .before .if1 .taken) _
+    (c .before .before .before .before .before .before .before .before .before .before .before .before .before .before .before .before .before .before .before .in-form .ensures) _
+    (c .before .before .before .before .before .before .before .before .before .before .before .before .before .before .before .before .before .before .is-done .ensures)
+    (c .before .before .before .before .before .before .before .before .before .before .before .before .before .before .before .before .before .if2 .taken) _
+    (c .before .before .before .before .before .before .before .before .before .before .before .before .before .before .before .before .kept-in .ensures)
+    (c .before .before .before .before .before .before .before .before .before .before .before .before .before .if3 .left) _ (c .before .before .before .before .before .before .before .before .restore .ensures)
 
 pub resume-spec : {M : Type 1} → statement M
 resume-spec =

@@ -2,7 +2,7 @@
 use mathlib.Core.Path.{_≡_, refl, sym, ap, _∙_}
 use mathlib.Core.Bool.{Bool, true, false, cond}
 use mathlib.Core.List.{List, [], _∷_, map}
-use Prim.Native.Nat.{ℕ, suc, _+_, _*_, _/_, _^_, _≤_, _<_}
+use Prim.Native.Nat.{ℕ, suc, _+_, _*_, _/_, _≤_}
 use native.Mathlib.Nat.{add-zero}
 use native.Mathlib.Omega.{arith}
 use lib.Dec.{eqb, leb}
@@ -50,7 +50,7 @@ module _ (slots flags area records : List ℕ) (m : Machine) where
   unfolding pageFileOf dirtyOut
   length-pages = length-contents slots area (dirtyFrom flags 0)
 
-  length-dirty : length (dirtyOut slots flags area) ≡ length (dirtyFrom flags 0)
+  pub length-dirty : length (dirtyOut slots flags area) ≡ length (dirtyFrom flags 0)
   unfolding dirtyOut
   length-dirty = length-map (dirtyFrom flags 0) (readOut slots area)
 
@@ -135,11 +135,11 @@ room-told slots flags area records file pages memory b fit t k runs dirty e d i 
 
 -- both outputs hold the files, or not
 module _ (file pages : ℕ) (s : Snapshot) where
-  out-short : holds file pages s ≡ false → notMade 8 ≡ laidOut file pages s
+  pub out-short : holds file pages s ≡ false → notMade 8 ≡ laidOut file pages s
   unfolding laidOut
   out-short e = rw e
 
-  out-held : holds file pages s ≡ true
+  pub out-held : holds file pages s ≡ true
       → record {
         number = 0;
         records = length (recordsOf s);

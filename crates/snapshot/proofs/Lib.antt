@@ -9,8 +9,12 @@ pub mod TakenNow
 pub mod Writing
 pub mod Files
 pub mod Answered
+-- how many records there are, and that the files read back:
+pub mod Bounds
 -- resume, step by step, and what its refusals leave:
 pub mod Restored
 pub mod RestoredRuns
 pub mod Resumed
 pub mod Refused
+-- no second outcome fits a promise:
+pub mod Once

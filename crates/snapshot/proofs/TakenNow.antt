@@ -2,13 +2,12 @@
 use mathlib.Core.Path.{_≡_, refl, sym, ap, _∙_}
 use mathlib.Core.Bool.{Bool, true, false, cond}
 use mathlib.Core.List.{List, [], _∷_, map}
-use Prim.Native.Nat.{ℕ, zero, suc, _+_, _-_, _*_, _/_, _≤_}
+use Prim.Native.Nat.{ℕ, zero, suc, _+_, _-_, _/_}
 use native.Mathlib.Decide.{decLt}
-use native.Mathlib.Nat.{sub-zero}
 use native.Mathlib.Omega.{arith}
-use lib.Dec.{eqb, ltb}
-use lib.ListN.{length, getD, List·getD-eq-default}
-use borrow.Author.Tests.{lt-ltb, le-ltb, eq-eqb, ne-eqb, eqb-true}
+use lib.Dec.{eqb}
+use lib.ListN.{length, List·getD-eq-default}
+use borrow.Author.Tests.{lt-ltb, le-ltb}
 use Rattle.bits.specs.Rounding.{pageSize}
 use Rattle.program.specs.Program.{Prog, ret, ask, run, bind, perform, onwards, after, each, eachIn, along, collect, collectIn}
 use Rattle.program.specs.Layers.{low, own, beside, lift}
@@ -21,10 +20,10 @@ use Rattle.machine.specs.Fresh.{Tracked, LentMachine}
 use Rattle.machine.specs.Operations as machine
 use Rattle.machine.specs.Numbers.{numbersOf}
 use Rattle.machine.specs.declared.Machine.{Machine}
-use Rattle.recordfile.specs.Snapshots.{Kept, SourceRun, DirtyRun, Snapshot}
+use Rattle.recordfile.specs.Snapshots.{SourceRun, DirtyRun}
 use Rattle.tracking.specs.declared.records.Tracking.{Tracking}
 use Rattle.tracking.specs.Answers.{trackedOf}
-use Rattle.tracking.specs.Operations.{Call, does, fitsAll, entryIn, MachineCall, machineDoes}
+use Rattle.tracking.specs.Operations.{does, fitsAll, entryIn, MachineCall, machineDoes}
 use Rattle.tracking.proofs.Lengths.{fit-yes, fit-not, memory-told}
 use Rattle.snapshot.specs.Runs.{Run, flagAt, dirtyRuns, sourceRuns, dirtyFrom, sourcesFrom}
 use Rattle.snapshot.specs.MakeSnapshot.{Taken, taken, notTaken, askFlag, askEntry, meetRun, readRun, takeRuns, takePages, askKept, Made, notMade, laidOut, snapshotOf, makeSnapshot}

@@ -2,7 +2,7 @@
 use mathlib.Core.Path.{_≡_, refl, sym, ap, _∙_}
 use mathlib.Core.Bool.{true}
 use mathlib.Core.List.{List, [], _∷_, _++_, append-nil}
-use Prim.Native.Nat.{ℕ, zero, suc, _+_, _-_, _*_, _/_, _≤_, _<_}
+use Prim.Native.Nat.{ℕ, suc, _+_, _-_, _*_, _/_, _≤_, _<_}
 use native.Mathlib.Omega.{arith}
 use lib.ListN.{length, getD, take, drop, drop-of-length-le}
 use lib.Seq.{drop-drop}
@@ -10,7 +10,7 @@ use borrow.Author.Tests.{lt-ltb}
 use Rattle.machine.specs.declared.Machine.{Machine}
 use Rattle.words.specs.Bytes.{part, written}
 use Rattle.bits.specs.Rounding.{pageSize}
-use Rattle.program.specs.Program.{run, perform, each}
+use Rattle.program.specs.Program.{run, perform}
 use Rattle.memory.specs.declared.Memory.{Memory}
 use Rattle.memory.specs.Storage.{State, Fitting, stateOf, byteIn, span}
 use Rattle.memory.specs.Operations as memory-op

@@ -6,18 +6,22 @@
 //! and both machines the same flags and records.
 //!
 //! It prints a line for each case: layer, call, bytes, nanoseconds a call of the Rust and of the port, and for whole
-//! pages those of memmove or memset alone. tools/bench runs it and prints the table.
+//! pages those of memmove or memset alone, or of two plain copies. tools/bench runs it and prints the table.
 
 #[allow(dead_code)]
 mod archive;
+#[allow(dead_code)]
+#[path = "../oracle/recordfile.rs"]
+mod recordfile;
 
-use archive::{Calls, ContextStored, Lent, Recorded, SPARSE, Sources, Stored, Tracked, Value, WXORX};
+use archive::{Calls, ContextStored, Files, Lent, Made, Recorded, SPARSE, Sources, Stored, Tracked, Value, WXORX};
 use ckb_vm::elf::{LoadingAction, ProgramMetadata};
 use ckb_vm::machine::{CoreMachine, DefaultCoreMachine, SupportMachine};
 use ckb_vm::memory::sparse::SparseMemory;
 use ckb_vm::memory::wxorx::WXorXMemory;
-use ckb_vm::snapshot2::{DataSource, Snapshot2Context};
+use ckb_vm::snapshot2::{DataSource, Snapshot2, Snapshot2Context};
 use ckb_vm::{Bytes, Error, memory::Memory};
+use recordfile::{RECORD, encode};
 use std::hint::black_box;
 use std::marker::PhantomData;
 use std::ptr;
@@ -41,6 +45,13 @@ const STORED: [usize; 5] = [1, 4, 16, 64, 256];
 const PAST: usize = 100;
 /// Loading actions, and the pages of each.
 const ACTIONS: [(usize, usize); 5] = [(1, 1), (1, 16), (1, 256), (16, 1), (16, 16)];
+/// Dirty pages of a machine that is handed over, and how far each is from the next.
+const DIRTY: [(usize, usize); 7] = [(0, 1), (1, 1), (16, 1), (256, 1), (PAGES, 1), (16, 64), (256, 4)];
+/// The rounds of a case that moves so many bytes.
+const MANY: usize = 256 * PAGE;
+const FEW_ROUNDS: usize = 60;
+/// The most records of a record file.
+const MOST_RECORDS: usize = 9 + PAGES;
 
 // ---- the upstream Rust: one call each that is not inlined
 
@@ -447,8 +458,281 @@ fn time_tracking() {
     }
 }
 
+// ---- the cases of snapshots
+
+#[inline(never)]
+fn make_snapshot(context: &Context, core: &mut Core) -> Result<Snapshot2<u64>, Error> {
+    context.make_snapshot(core)
+}
+
+#[inline(never)]
+fn resume(context: &mut Context, core: &mut Core, snapshot: &Snapshot2<u64>) -> Result<(), Error> {
+    context.resume(core, snapshot)
+}
+
+/// A machine of the port with its storage, as a host holds it.
+struct Whole {
+    slots: Vec<u16>,
+    flags: Vec<u8>,
+    area: &'static mut [u8],
+    records: Vec<u64>,
+    machine: archive::Machine,
+}
+
+impl Whole {
+    fn new() -> Self {
+        let (mut slots, mut flags, area, mut records) =
+            (vec![0; PAGES], vec![0; PAGES], block(SIZE), vec![0; 3 * PAGES]);
+        let lent = Lent { slots: &mut slots, flags: &mut flags, area };
+        let fresh = archive::machine_fresh(Tracked { lent, records: &mut records }, SIZE as u64, 1, 0);
+        assert!(fresh.number == 0, "no fresh machine");
+        Whole { slots, flags, area, records, machine: fresh.machine }
+    }
+
+    fn lent(&mut self) -> Lent<'_> {
+        Lent { slots: &mut self.slots, flags: &mut self.flags, area: self.area }
+    }
+
+    fn tracked(&mut self) -> Tracked<'_> {
+        let lent = Lent { slots: &mut self.slots, flags: &mut self.flags, area: self.area };
+        Tracked { lent, records: &mut self.records }
+    }
+
+    fn fresh(&mut self) {
+        self.machine = archive::machine_fresh(self.tracked(), SIZE as u64, 1, 0).machine;
+    }
+
+    fn make_snapshot(&mut self, file: &mut [u8], pages: &mut [u8]) -> Made {
+        let machine = self.machine;
+        archive::make_snapshot(self.tracked(), file, pages, machine)
+    }
+
+    fn resume(&mut self, sources: Sources, files: Files) -> u32 {
+        let machine = self.machine;
+        let answer = archive::resume(self.tracked(), sources, files, machine);
+        self.machine = answer.machine;
+        answer.number
+    }
+}
+
+/// The dirty pages of a machine that is handed over: how many, how far each is from the next, and whether all other
+/// pages are tracked.
+#[derive(Clone, Copy)]
+struct Case {
+    count: usize,
+    apart: usize,
+    tracked: bool,
+}
+
+impl Case {
+    fn bytes(self) -> usize {
+        self.count * PAGE
+    }
+
+    /// The address of a dirty page.
+    fn address(self, i: usize) -> usize {
+        i * self.apart * PAGE
+    }
+
+    /// The pages that a resume has to take from the item.
+    fn others(self) -> impl Iterator<Item = usize> {
+        let dirty = move |page: &usize| page % self.apart == 0 && page / self.apart < self.count;
+        (0..if self.tracked { PAGES } else { 0 }).filter(move |page| !dirty(page))
+    }
+
+    /// The last two times are of copies: page by page, and in one piece.
+    fn say(self, call: &str, copies: bool, [rust, port, pages, whole]: [f64; 4]) {
+        let apart = if self.apart > 1 { ",apart" } else { "" };
+        let tracked = if self.tracked { ",rest,tracked" } else { "" };
+        print!("machine {call}{apart}{tracked} {} {rust:.2} {port:.2}", self.bytes());
+        if copies { println!(" {pages:.2} pages {whole:.2} whole") } else { println!() }
+    }
+}
+
+/// Both machines hold the item's bytes, all clean; then the case's pages are dirty, with a word of their own.
+fn prepare(core: &mut Core, port: &mut Whole, item: &'static [u8], case: Case) -> Context {
+    let mut context = Context::new(Item(item));
+    let size = SIZE as u64;
+    let mut memory = port.machine.memory;
+    let stored = SPARSE.store_bytes(port.lent(), item, memory, 0);
+    memory.used = stored.used;
+    port.machine.memory = memory;
+    let mut refused = stored.number | archive::untrack_pages(port.tracked(), memory, 0, size);
+    let mut failed = core.memory_mut().inner_mut().store_bytes(0, item).is_err();
+    for page in 0..PAGES as u64 {
+        refused |= SPARSE.clear_flag(port.lent(), memory, page, u8::MAX);
+        failed |= core.memory_mut().clear_flag(page, u8::MAX).is_err();
+    }
+    if case.tracked {
+        refused |= archive::track_pages(port.tracked(), memory, 0, size, ITEM, 0);
+        failed |= context.track_pages(core, 0, size, &ITEM, 0).is_err();
+    }
+    for i in 0..case.count {
+        let (address, word) = (case.address(i) as u64, i as u64);
+        refused |= archive::untrack_pages(port.tracked(), memory, address, 1);
+        refused |= WXORX.store64(port.lent(), memory, address, word).number;
+        failed |= context.untrack_pages(core, address, 1).is_err();
+        failed |= store64(core.memory_mut(), address, word).is_err();
+    }
+    assert!(!failed && refused == 0, "a machine was not made ready");
+    context
+}
+
+/// Nanoseconds of a call.
+fn clock(call: impl FnOnce()) -> f64 {
+    let start = Instant::now();
+    call();
+    start.elapsed().as_nanos() as f64
+}
+
+/// The best of each side's times, the sides in turn. A side has two turns together, so that in the second its own bytes
+/// are where the caches have them, and not those of the side before.
+fn best_of<const N: usize>(bytes: usize, mut sides: [&mut dyn FnMut() -> f64; N]) -> [f64; N] {
+    let mut best = [f64::MAX; N];
+    for _ in 0..if bytes < MANY { ROUNDS } else { FEW_ROUNDS } {
+        for (best, side) in best.iter_mut().zip(&mut sides) {
+            *best = best.min(side()).min(side());
+        }
+    }
+    best
+}
+
+/// Takes both snapshots, which must be the same, and leaves the port's in the outputs.
+fn snapshots<'a>(
+    context: &Context,
+    core: &mut Core,
+    port: &mut Whole,
+    file: &'a mut [u8],
+    pages: &'a mut [u8],
+) -> (Snapshot2<u64>, Files<'a>) {
+    let snapshot = make_snapshot(context, core).expect("a snapshot");
+    let made = port.make_snapshot(file, pages);
+    assert!(made.number == 0, "a snapshot was refused");
+    let files = Files { records: &file[..made.records as usize * RECORD], pages: &pages[..made.pages as usize * PAGE] };
+    let (records, images) = encode(&snapshot);
+    assert!(records == files.records && images == files.pages, "the snapshots differ");
+    (snapshot, files)
+}
+
+fn time_make_snapshot(
+    case: Case,
+    context: &Context,
+    core: &mut Core,
+    port: &mut Whole,
+    file: &mut [u8],
+    pages: &mut [u8],
+) {
+    let (mut failed, mut refused) = (false, 0);
+    let (count, bytes) = (black_box(case.count), black_box(case.bytes()));
+    let (from, to) = (black_box(port.area.as_ptr()), black_box(pages.as_mut_ptr()));
+    // a few of the small ones in one time, which would else be the clock's
+    let calls = (calls_of(bytes) / 50).max(1);
+    let each = |call: &mut dyn FnMut()| clock(|| (0..calls).for_each(|_| call())) / calls as f64;
+    let times = best_of(
+        bytes,
+        [
+            &mut || each(&mut || failed |= black_box(make_snapshot(context, core)).is_err()),
+            &mut || each(&mut || refused |= port.make_snapshot(file, pages).number),
+            // bytes of the area, and an output that is apart from it
+            &mut || {
+                each(&mut || {
+                    for i in 0..count {
+                        unsafe { ptr::copy_nonoverlapping(from.add(case.address(i)), to.add(i * PAGE), PAGE) }
+                    }
+                })
+            },
+            &mut || each(&mut || unsafe { ptr::copy_nonoverlapping(from, to, bytes) }),
+        ],
+    );
+    assert!(!failed && refused == 0, "a snapshot was refused");
+    case.say("make_snapshot", bytes > 0, times);
+}
+
+/// Each time on a fresh machine, which is made before and not timed.
+fn time_resume(
+    case: Case,
+    item: &'static [u8],
+    sources: Sources,
+    snapshot: &Snapshot2<u64>,
+    files: Files,
+    other: &mut Whole,
+) {
+    let (mut failed, mut refused) = (false, 0);
+    let count = black_box(case.count);
+    let bytes = black_box(PAGE * (case.count + case.others().count()));
+    let (from, to) = (black_box(item.as_ptr()), black_box(other.area.as_mut_ptr()));
+    // what the clock takes for itself
+    let [idle] = best_of(0, [&mut || clock(|| ())]);
+    let times = best_of(
+        bytes,
+        [
+            &mut || {
+                let mut core = Core::new_with_memory(0, 1, 0, SIZE);
+                let mut context = Context::new(Item(item));
+                clock(|| failed |= resume(&mut context, &mut core, snapshot).is_err())
+            },
+            &mut || {
+                other.fresh();
+                clock(|| refused |= other.resume(sources, files))
+            },
+            // pages of the page file and of the item, and an area that is apart from both
+            &mut || {
+                clock(|| {
+                    for i in 0..count {
+                        let page = &files.pages[i * PAGE..][..PAGE];
+                        unsafe { ptr::copy_nonoverlapping(page.as_ptr(), to.add(case.address(i)), PAGE) }
+                    }
+                    for at in case.others().map(|page| page * PAGE) {
+                        unsafe { ptr::copy_nonoverlapping(from.add(at), to.add(at), PAGE) }
+                    }
+                })
+            },
+            &mut || clock(|| unsafe { ptr::copy_nonoverlapping(from, to, bytes) }),
+        ],
+    );
+    assert!(!failed && refused == 0, "a resume was refused");
+    case.say("resume", bytes > 0, times.map(|time| time - idle));
+}
+
+fn time_snapshots() {
+    let item = block(SIZE);
+    for (i, byte) in item.iter_mut().enumerate() {
+        *byte = (i * 7 + i / 256) as u8;
+    }
+    let item = &*item;
+    let directory = [ITEM, 0, item.len() as u64];
+    let sources = Sources { directory: black_box(&directory), bytes: black_box(item) };
+    let (file, pages) = (block(MOST_RECORDS * RECORD), block(SIZE));
+    let (file_again, pages_again) = (block(MOST_RECORDS * RECORD), block(SIZE));
+    let rust = Box::leak(Box::new(Core::new_with_memory(0, 1, 0, SIZE)));
+    let (mut port, mut other) = (Whole::new(), Whole::new());
+    let (port, other) = (black_box(&mut port), black_box(&mut other));
+    for tracked in [false, true] {
+        for (count, apart) in DIRTY.into_iter().filter(|(count, _)| !tracked || *count < PAGES) {
+            let case = Case { count, apart, tracked };
+            let context = prepare(rust, port, item, case);
+            time_make_snapshot(case, &context, rust, port, file, pages);
+            let (snapshot, files) = snapshots(&context, rust, port, file, pages);
+            time_resume(case, item, sources, &snapshot, files, other);
+            // the machines that are resumed hold the same
+            other.fresh();
+            let number = other.resume(sources, files);
+            let (mut core, mut context) = (Core::new_with_memory(0, 1, 0, SIZE), Context::new(Item(item)));
+            let resumed = resume(&mut context, &mut core, &snapshot);
+            assert!(number == 0 && resumed.is_ok(), "a resume was refused");
+            let (_, again) = snapshots(&context, &mut core, other, file_again, pages_again);
+            assert!(again.records == files.records && again.pages == files.pages, "the resumed snapshot differs");
+            let (mut held, memory) = (vec![0; SIZE], other.machine.memory);
+            let number = SPARSE.load_bytes(other.lent(), &mut held, memory, 0, SIZE as u64);
+            let loaded = load_bytes(core.memory_mut(), 0, SIZE as u64);
+            assert!(number == 0 && loaded.is_ok_and(|loaded| loaded[..] == held), "the resumed bytes differ");
+        }
+    }
+}
+
 fn main() {
     time::<Sparse>();
     time::<WXorX>();
     time_tracking();
+    time_snapshots();
 }

@@ -48,7 +48,11 @@ loop-less : tie.Need-loop-less Inv-loop μ-loop
 loop-less c = search needs
 
 loop-again : tie.Need-loop-again Inv-loop μ-loop
-loop-again c = search (needs, dirty-next)
+loop-again c =
+    let one = c .before .before .before in
+    let turn = one .before .before .before in
+    dirty-next _ _ _ _ _ (turn .before .loop .inv) (turn .loop-test .taken) _ (one .before .before .decode .ensures) _ _ _ _
+    (one .pages .given .1) (c .before .if1 .left) (c .if2 .left)
 
 returns-5 : tie.Need-returns-5 Inv-loop μ-loop
 returns-5 c = search (needs, dirty-end)

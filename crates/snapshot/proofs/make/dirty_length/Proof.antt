@@ -28,7 +28,9 @@ sub-result : tie.Need-sub-result Inv-loop μ-loop
 sub-result c = search needs
 
 returns : tie.Need-returns Inv-loop μ-loop
-returns c = (search (needs, stretch-other), search needs)
+returns c =
+    let loop = c .before .before in
+    (stretch-other (loop .before .loop .inv) (loop .loop-test .taken) (c .if1 .taken), search needs)
 
 add-next-2 : tie.Need-add-next-2 Inv-loop μ-loop
 add-next-2 c = search needs
@@ -37,7 +39,9 @@ loop-less : tie.Need-loop-less Inv-loop μ-loop
 loop-less c = search needs
 
 loop-again : tie.Need-loop-again Inv-loop μ-loop
-loop-again c = search (needs, stretch-on)
+loop-again c =
+    let loop = c .before .before in
+    stretch-on (loop .before .loop .inv) (loop .loop-test .taken) (c .if1 .left) (loop .before .before .before .pre .1)
 
 sub-result-2 : tie.Need-sub-result-2 Inv-loop μ-loop
 sub-result-2 c = search needs

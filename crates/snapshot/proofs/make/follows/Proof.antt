@@ -23,7 +23,9 @@ returns-4 : tie.Need-returns-4
 returns-4 c = search (needs, follows-first)
 
 returns-5 : tie.Need-returns-5
-returns-5 c = search (needs, follows-offset)
+returns-5 c =
+    follows-offset _ _ _ _ _ _ _ (c .before .before .before .before .entry .given .1) (c .before .before .if1 .left)
+    (c .before .if2 .left) (c .if3 .left)
 
 pub follows-spec : {M : Type 1} → statement M
 follows-spec =

@@ -59,7 +59,18 @@ same-length-2 : tie.Need-same-length-2
 same-length-2 c = search needs
 
 returns-4 : tie.Need-returns-4
-returns-4 c = search (needs, snapshot-made)
+returns-4 c =
+    let files = c .before .before .before .before in
+    let test = files .before .before .before in
+    let room = test .before in
+    let found = room .before in
+    let done = found .before .before in
+    let met = done .before in
+    let made =
+    snapshot-made _ _ _ _ _ _ _ _ (met .before .before .lengths-fit .ensures) (met .before .if1 .taken) _ _ _ (met .count-dirty .ensures) _
+    (done .is-done .ensures) (found .before .if2 .taken) _ (found .count-sources .ensures) _ (room .has-room .ensures) (test .if3 .taken) _ _
+    (files .write-files .ensures .0) (files .write-files .ensures .1) in
+    λ i. made i
 
 pub make-snapshot-spec : {M : Type 1} → statement M
 make-snapshot-spec =

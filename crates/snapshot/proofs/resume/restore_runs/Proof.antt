@@ -64,7 +64,7 @@ same-length-8 : tie.Need-same-length-8 Inv-loop μ-loop
 same-length-8 c = search needs
 
 returns-2 : tie.Need-returns-2 Inv-loop μ-loop
-returns-2 c = search (needs, restored-all)
+returns-2 c = restored-all _ _ _ _ _ _ _ (c .before .loop .inv) (c .loop-test .left)
 
 pub restore-runs-spec : {M : Type 1} → statement M
 restore-runs-spec =

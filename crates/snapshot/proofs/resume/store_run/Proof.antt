@@ -23,7 +23,12 @@ same-length-3 : tie.Need-same-length-3
 same-length-3 c = search needs
 
 returns : tie.Need-returns
-returns c = search (needs, run-stored)
+returns c =
+    let marked = c .before .before in
+    let done = marked .before .before .before .before .before in
+    let stored = done .before .before .before .before .before .before .before .before in
+    run-stored _ _ _ _ _ _ _ (stored .store-over .ensures .0) (done .is-done .ensures) _ (marked .before .before .before .before .if1 .taken)
+    (marked .set-flags .ensures)
 
 same-length-4 : tie.Need-same-length-4
 same-length-4 c = search needs

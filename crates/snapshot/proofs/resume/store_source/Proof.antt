@@ -26,7 +26,12 @@ same-length-4 : tie.Need-same-length-4
 same-length-4 c = search needs
 
 returns : tie.Need-returns
-returns c = search (needs, source-stored)
+returns c =
+    let tracked = c .before .before .before .before in
+    let done = tracked .before .before .before .before .before .before in
+    let stored = done .before .before .before .before .before .before .before .before in
+    source-stored _ _ _ _ _ _ _ _ _ _ (stored .store-run .ensures) (done .is-done .ensures) _
+    (tracked .before .before .before .before .before .if1 .taken) (tracked .track-pages .ensures)
 
 same-length-5 : tie.Need-same-length-5
 same-length-5 c = search needs

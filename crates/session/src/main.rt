@@ -7,6 +7,7 @@ use listing::MOST_TEXT;
 use machine::Machine;
 use machine::RISCV_GENERAL_REGISTER_NUMBER;
 use outcome::Outcome;
+use recordfile::MOST_RECORDS;
 use recordfile::RECORD_BYTES;
 use tracking::records::Tracking;
 
@@ -36,6 +37,12 @@ const SIZE_ADDRESS: u64 = 16376;
 const FILE: usize = 1024;
 
 const PAGE_BYTES: usize = 4096;
+
+// The bytes that a snapshot wrote of each file.
+struct Written {
+    file: usize,
+    pages: usize,
+}
 
 // The front of a slice, as far as it is there.
 fn front(bytes: &[u8], size: usize) -> &[u8] {
@@ -172,124 +179,270 @@ fn same_numbers(one: Machine, two: Machine) -> bool {
 
 // ---- told
 
-fn main() {
-    let sources = readings();
-    let directory = [ITEM, 0, ITEM_BYTES as u64];
+// A machine is fresh.
+fn start(
+    slots: &mut [u16],
+    flags: &mut [u8],
+    area: &mut [u8],
+    records: &mut [u64],
+    maximum: u64,
+) -> Machine {
+    let fresh = machine::fresh(slots, flags, area, records, BYTES as u64, VERSION, maximum);
+    let outcome = fresh.outcome;
+    say_outcome(outcome);
+    fresh.machine
+}
 
-    say(b"A machine of 4 pages, version 1, 1000 cycles at most, is fresh: ");
-    let mut slots = [0u16; PAGES];
-    let mut flags = [0u8; PAGES];
-    let mut area = [0u8; BYTES];
-    let mut records = [0u64; RECORDS];
-    let fresh = machine::fresh(
-        &mut slots,
-        &mut flags,
-        &mut area,
-        &mut records,
-        BYTES as u64,
-        VERSION,
-        MAXIMUM,
-    );
-    let made = fresh.outcome;
-    say_outcome(made);
-    let one = fresh.machine;
-
-    say(b"It stores the 10000 bytes of item 7 at 100, and how many they are at 16376: ");
+// It stores the item.
+fn load(
+    slots: &mut [u16],
+    flags: &mut [u8],
+    area: &mut [u8],
+    records: &mut [u64],
+    directory: &[u64],
+    sources: &[u8],
+    one: Machine,
+) -> Machine {
+    let memory = one.memory;
     let stored = tracking::context::store_bytes(
-        &mut slots,
-        &mut flags,
-        &mut area,
-        &mut records,
-        &directory,
-        &sources,
-        one.memory,
+        slots,
+        flags,
+        area,
+        records,
+        directory,
+        sources,
+        memory,
         ADDRESS,
         ITEM,
         0,
         ITEM_BYTES as u64,
         SIZE_ADDRESS,
     );
-    let kept = stored.outcome;
-    say_outcome(kept);
-    let one = one.with_memory(stored.memory);
+    let outcome = stored.outcome;
+    say_outcome(outcome);
+    let next = stored.memory;
+    one.with_memory(next)
+}
 
+// Both: the first machine, until it is stopped.
+fn first(
+    slots: &mut [u16],
+    flags: &mut [u8],
+    area: &mut [u8],
+    records: &mut [u64],
+    directory: &[u64],
+    sources: &[u8],
+) -> Machine {
+    say(b"A machine of 4 pages, version 1, 1000 cycles at most, is fresh: ");
+    let one = start(slots, flags, area, records, MAXIMUM);
+    say(b"It stores the 10000 bytes of item 7 at 100, and how many they are at 16376: ");
+    load(slots, flags, area, records, directory, sources, one)
+}
+
+// It is stopped: what was written of the two files.
+fn stop(
+    slots: &[u16],
+    flags: &[u8],
+    area: &[u8],
+    records: &[u64],
+    file: &mut [u8],
+    pages: &mut [u8],
+    one: Machine,
+) -> Written {
     say(b"It is stopped, and a snapshot taken: ");
-    let mut file = [0u8; FILE];
-    let mut pages = [0u8; BYTES];
-    let taken = snapshot::make::make_snapshot(
-        &slots,
-        &flags,
-        &area,
-        &records,
-        &mut file,
-        &mut pages,
-        one,
-    );
-    let snapped = taken.outcome;
-    say_outcome(snapped);
-    let file_size = taken.records as usize * RECORD_BYTES;
-    let pages_size = taken.pages as usize * PAGE_BYTES;
+    let made = snapshot::make::make_snapshot(slots, flags, area, records, file, pages, one);
+    let outcome = made.outcome;
+    say_outcome(outcome);
+    Written {
+        file: words::least(made.records as usize, MOST_RECORDS) * RECORD_BYTES,
+        pages: words::least(made.pages as usize, PAGES) * PAGE_BYTES,
+    }
+}
+
+// The text of a record file.
+fn list(file: &[u8]) {
     say(b"The record file, as snaplist lists it:\n");
     let mut text = [0u8; MOST_TEXT];
-    let listed = listing::list(front(&file, file_size), &mut text);
-    say(front(&text, listed.size));
+    let listed = listing::list(file, &mut text);
+    let size = listed.size;
+    say(front(&text, size));
+}
 
-    say(b"A second machine, elsewhere, is fresh: ");
-    let mut slots2 = [0u16; PAGES];
-    let mut flags2 = [0u8; PAGES];
-    let mut area2 = [0u8; BYTES];
-    let mut records2 = [0u64; RECORDS];
-    let second = machine::fresh(
-        &mut slots2,
-        &mut flags2,
-        &mut area2,
-        &mut records2,
-        BYTES as u64,
-        VERSION,
-        0,
-    );
-    let ready = second.outcome;
-    say_outcome(ready);
-    say(b"It is resumed from the two files and the sources: ");
+// A machine is resumed.
+fn go_on(
+    slots: &mut [u16],
+    flags: &mut [u8],
+    area: &mut [u8],
+    records: &mut [u64],
+    directory: &[u64],
+    sources: &[u8],
+    file: &[u8],
+    pages: &[u8],
+    two: Machine,
+) -> Machine {
     let resumed = snapshot::resume::resume(
-        &mut slots2,
-        &mut flags2,
-        &mut area2,
-        &mut records2,
-        &directory,
-        &sources,
-        front(&file, file_size),
-        front(&pages, pages_size),
-        second.machine,
+        slots,
+        flags,
+        area,
+        records,
+        directory,
+        sources,
+        file,
+        pages,
+        two,
     );
-    let done = resumed.outcome;
-    say_outcome(done);
-    let two = resumed.machine;
+    let outcome = resumed.outcome;
+    say_outcome(outcome);
+    resumed.machine
+}
 
-    say(b"The two machines:\n");
+// A second machine is fresh, and resumed.
+fn second(
+    slots: &mut [u16],
+    flags: &mut [u8],
+    area: &mut [u8],
+    records: &mut [u64],
+    directory: &[u64],
+    sources: &[u8],
+    file: &[u8],
+    pages: &[u8],
+) -> Machine {
+    say(b"A second machine, elsewhere, is fresh: ");
+    let two = start(slots, flags, area, records, 0);
+    say(b"It is resumed from the two files and the sources: ");
+    go_on(
+        slots,
+        flags,
+        area,
+        records,
+        directory,
+        sources,
+        file,
+        pages,
+        two,
+    )
+}
+
+// All bytes of a machine's memory, read by its own call; where that refuses, the output stays as it was.
+fn read_all(slots: &[u16], flags: &[u8], area: &[u8], out: &mut [u8], one: Machine) {
+    let memory = one.memory;
+    memory::wxorx::load_bytes(slots, flags, area, out, memory, 0, BYTES as u64);
+}
+
+// Everything that a call can see of two machines.
+fn compare(
+    slots: &[u16],
+    flags: &[u8],
+    area: &[u8],
+    records: &[u64],
+    slots2: &[u16],
+    flags2: &[u8],
+    area2: &[u8],
+    records2: &[u64],
+    one: Machine,
+    two: Machine,
+) {
     let mut bytes = [0u8; BYTES];
     let mut bytes2 = [255u8; BYTES];
-    let held = one.memory;
-    let held2 = two.memory;
-    memory::wxorx::load_bytes(&slots, &flags, &area, &mut bytes, held, 0, BYTES as u64);
-    memory::wxorx::load_bytes(
-        &slots2,
-        &flags2,
-        &area2,
-        &mut bytes2,
-        held2,
-        0,
-        BYTES as u64,
-    );
+    read_all(slots, flags, area, &mut bytes, one);
+    read_all(slots2, flags2, area2, &mut bytes2, two);
+    say(b"The two machines:\n");
     say_equal(b"bytes", same_bytes(&bytes, &bytes2));
-    say_equal(b"flags", same_bytes(&flags, &flags2));
+    say_equal(b"flags", same_bytes(flags, flags2));
     say_equal(
         b"tracked pages",
-        same_tracking(&flags, &records, &flags2, &records2),
+        same_tracking(flags, records, flags2, records2),
     );
     say_equal(b"registers", same_registers(one, two));
     say_equal(
         b"pc, version, cycles, maximum, reservation",
         same_numbers(one, two),
     );
+}
+
+// The second machine, and the two compared.
+fn elsewhere(
+    slots: &[u16],
+    flags: &[u8],
+    area: &[u8],
+    records: &[u64],
+    directory: &[u64],
+    sources: &[u8],
+    file: &[u8],
+    pages: &[u8],
+    one: Machine,
+) {
+    let mut slots2 = [0u16; PAGES];
+    let mut flags2 = [0u8; PAGES];
+    let mut area2 = [0u8; BYTES];
+    let mut records2 = [0u64; RECORDS];
+    let two = second(
+        &mut slots2,
+        &mut flags2,
+        &mut area2,
+        &mut records2,
+        directory,
+        sources,
+        file,
+        pages,
+    );
+    compare(
+        slots,
+        flags,
+        area,
+        records,
+        &slots2,
+        &flags2,
+        &area2,
+        &records2,
+        one,
+        two,
+    );
+}
+
+// The first machine is stopped, and goes on elsewhere.
+fn hand_over(
+    slots: &[u16],
+    flags: &[u8],
+    area: &[u8],
+    records: &[u64],
+    directory: &[u64],
+    sources: &[u8],
+    one: Machine,
+) {
+    let mut file = [0u8; FILE];
+    let mut pages = [0u8; BYTES];
+    let written = stop(slots, flags, area, records, &mut file, &mut pages, one);
+    let record_file = front(&file, written.file);
+    let page_file = front(&pages, written.pages);
+    list(record_file);
+    elsewhere(
+        slots,
+        flags,
+        area,
+        records,
+        directory,
+        sources,
+        record_file,
+        page_file,
+        one,
+    );
+}
+
+fn main() {
+    let sources = readings();
+    let directory = [ITEM, 0, ITEM_BYTES as u64];
+    let mut slots = [0u16; PAGES];
+    let mut flags = [0u8; PAGES];
+    let mut area = [0u8; BYTES];
+    let mut records = [0u64; RECORDS];
+    let one = first(
+        &mut slots,
+        &mut flags,
+        &mut area,
+        &mut records,
+        &directory,
+        &sources,
+    );
+    hand_over(&slots, &flags, &area, &records, &directory, &sources, one);
 }

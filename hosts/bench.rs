@@ -661,23 +661,25 @@ fn time_resume(
     let count = black_box(case.count);
     let bytes = black_box(PAGE * (case.count + case.others().count()));
     let (from, to) = (black_box(item.as_ptr()), black_box(other.area.as_mut_ptr()));
-    // what the clock takes for itself
+    // what the clock takes for itself; a resume of no page leaves the pages fresh for the next
     let [idle] = best_of(0, [&mut || clock(|| ())]);
+    let calls = if bytes == 0 { 100 } else { 1 };
+    let each = |call: &mut dyn FnMut()| (clock(|| (0..calls).for_each(|_| call())) - idle) / f64::from(calls);
     let times = best_of(
         bytes,
         [
             &mut || {
                 let mut core = Core::new_with_memory(0, 1, 0, SIZE);
                 let mut context = Context::new(Item(item));
-                clock(|| failed |= resume(&mut context, &mut core, snapshot).is_err())
+                each(&mut || failed |= resume(&mut context, &mut core, snapshot).is_err())
             },
             &mut || {
                 other.fresh();
-                clock(|| refused |= other.resume(sources, files))
+                each(&mut || refused |= other.resume(sources, files))
             },
             // pages of the page file and of the item, and an area that is apart from both
             &mut || {
-                clock(|| {
+                each(&mut || {
                     for i in 0..count {
                         let page = &files.pages[i * PAGE..][..PAGE];
                         unsafe { ptr::copy_nonoverlapping(page.as_ptr(), to.add(case.address(i)), PAGE) }
@@ -687,11 +689,11 @@ fn time_resume(
                     }
                 })
             },
-            &mut || clock(|| unsafe { ptr::copy_nonoverlapping(from, to, bytes) }),
+            &mut || each(&mut || unsafe { ptr::copy_nonoverlapping(from, to, bytes) }),
         ],
     );
     assert!(!failed && refused == 0, "a resume was refused");
-    case.say("resume", bytes > 0, times.map(|time| time - idle));
+    case.say("resume", bytes > 0, times);
 }
 
 fn time_snapshots() {

@@ -19,7 +19,7 @@ use Rattle.recordfile.specs.declared.Record.the-variants.{Source}
 use Rattle.recordfile.specs.Words.{recordBytes, image}
 use Rattle.recordfile.specs.Records.{wordsOf, encoded}
 use Rattle.recordfile.specs.Form.{leastRecords, registerRecords}
-use Rattle.recordfile.specs.Snapshots.{sourceRun, sourceRecords, dirtyRecords, imageOf, fileOf, contents, pageFileOf}
+use Rattle.recordfile.specs.Snapshots.{SourceRun, sourceRun, sourceRecords, dirtyRecords, imageOf, fileOf, contents, pageFileOf}
 use Rattle.recordfile.proofs.FileRecords.{length-imageOf}
 use Rattle.recordfile.proofs.SnapshotRecords.{length-registerRecords, length-sourceRecords, length-dirtyRecords}
 use Rattle.snapshot.specs.Runs.{Run, aRun, dirtyFrom, sourcesFrom, total}
@@ -29,7 +29,6 @@ use Rattle.snapshot.specs.declared.make.DirtySpan.the-variants as dirty-
 use Rattle.snapshot.specs.declared.make.SourceSpan.{SourceSpan}
 use Rattle.snapshot.specs.declared.make.SourceSpan.the-variants as source-span
 use Rattle.snapshot.proofs.DirtyPages.{dirty-past}
-use Rattle.snapshot.proofs.SourcePages.{sources-past}
 use Rattle.snapshot.proofs.Counting.{dirty-inside, source-inside}
 use Rattle.snapshot.proofs.Writing.{Recording, recording-first, recording-more, recording-next, recording-done, length-content, pages-content}
 
@@ -44,34 +43,39 @@ module _ (size p page flag id offset pages : ℕ) (found : SourceSpan) (f : foun
   pub source-size : pages * pageSize < 2 ^ 64
   source-size = omega (arith, source-inside size p page flag id offset pages found f i .within)
 
--- those from page p on are left
-pub record WritingSources (flags records file₀ : List ℕ) (from : ℕ) (file : List ℕ) (at p : ℕ) : Type 0 where
-  pub within : p ≤ length flags
+-- those from page p on are left, up to record `end`
+pub record WritingSources (flags records file₀ : List ℕ) (from end : ℕ) (file : List ℕ) (at p : ℕ) : Type 0 where
+  pub left : at + length (sourcesFrom flags records p) ≡ end
   pub recorded :
       Recording file₀ from (sourceRecords (sourcesFrom flags records 0)) file at (sourceRecords (sourcesFrom flags records p))
 
+no-runs : (l : List SourceRun) → length l ≡ 0 → l ≡ []
+no-runs [] e = refl
+no-runs (r ∷ l) e = absurd (omega arith)
+
 module _ (flags records file₀ : List ℕ) (from : ℕ) where
-  pub sources-first : (from + length (sourcesFrom flags records 0)) * recordBytes ≤ length file₀
-      → WritingSources flags records file₀ from file₀ from 0
-  sources-first h =
+  pub sources-first : (count : ℕ) → count ≡ length (sourcesFrom flags records 0) → (from + count) * recordBytes ≤ length file₀
+      → WritingSources flags records file₀ from (from + count) file₀ from 0
+  sources-first count e h =
       record {
-        within = omega arith;
-        recorded = recording-first file₀ from _ (rw (length-sourceRecords (sourcesFrom flags records 0)) h);
+        left = omega arith;
+        recorded = recording-first file₀ from _ (rw (length-sourceRecords (sourcesFrom flags records 0), ← e) h);
       }
 
-  module _ (file : List ℕ) (at p : ℕ) (g : WritingSources flags records file₀ from file at p) where
+  module _ (end : ℕ) (file : List ℕ) (at p : ℕ) (g : WritingSources flags records file₀ from end file at p) where
     -- what was found from page p on
     module _ (found : SourceSpan) (e : sourcesFrom flags records p ≡ sourceSpread flags records found) where
       -- a run is written
       pub sources-next : (page flag id offset pages : ℕ) → found ≡ source-span.Run page flag id offset pages
-          → SourceWithin (length flags) p found → (now : List ℕ)
+          → (now : List ℕ)
           → now ≡ encoded file at (Source (page * pageSize) flag id offset (pages * pageSize))
-          → WritingSources flags records file₀ from now (at + 1) (page + pages)
+          → WritingSources flags records file₀ from end now (at + 1) (page + pages)
       unfolding sourceRecords
-      sources-next page flag id offset pages f i now q =
+      sources-next page flag id offset pages f now q =
           let r : sourcesFrom flags records p
           ≡ sourceRun (page * pageSize) flag id offset (pages * pageSize) ∷ sourcesFrom flags records (page + pages) = rw f at e in
-          record { within = source-inside (length flags) p page flag id offset pages found f i .within; recorded = recording-next _ _ (rw r at (g .recorded)) now q }
+          let l = rw r at (g .left) in
+          record { left = omega arith; recorded = recording-next _ _ (rw r at (g .recorded)) now q }
 
       -- no run is left
       pub sources-none : found ≡ source-span.End
@@ -79,9 +83,11 @@ module _ (flags records file₀ : List ℕ) (from : ℕ) where
       unfolding sourceRecords
       sources-none f = let r : sourcesFrom flags records p ≡ [] = rw f at e in recording-done (rw r at (g .recorded))
 
-    pub sources-done : length flags ≤ p
-        → file ≡ written file₀ (from * recordBytes) (imageOf (sourceRecords (sourcesFrom flags records 0)))
-    sources-done h = sources-none source-span.End (sources-past flags records p h) refl
+    -- the last record is written
+    pub sources-done : end ≤ at → file ≡ written file₀ (from * recordBytes) (imageOf (sourceRecords (sourcesFrom flags records 0)))
+    sources-done h =
+        let left = g .left in
+        sources-none source-span.End (no-runs (sourcesFrom flags records p) (omega arith)) refl
 
 -- ---- dirty runs
 

@@ -2,6 +2,7 @@
 pub mod Joining
 pub mod DirtyPages
 pub mod SourcePages
+pub mod Groups
 pub mod Counting
 pub mod Merged
 -- a snapshot's program on lent lists, its second pass, and each way in which the call ends:

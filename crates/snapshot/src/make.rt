@@ -30,7 +30,9 @@ use recordfile::RECORD_BYTES;
 use recordfile::REGISTER_RECORDS;
 use recordfile::REGISTERS_A_RECORD;
 use recordfile::Record;
+use tracking::records::TRACKED;
 use tracking::records::Tracking;
+use tracking::records::WORDS;
 
 // What a snapshot answers: the records of the record file, and the pages of the page file.
 pub struct Made {
@@ -67,6 +69,9 @@ pub struct Counted {
 // The bytes of a page.
 const PAGE_BYTES: usize = PAGE as usize;
 
+// The pages that are passed over together.
+const GROUP: usize = 32;
+
 // ---- runs
 
 // The pages of the run that starts at dirty page `page`.
@@ -88,6 +93,32 @@ fn dirty_length(flags: &[u8], page: usize) -> usize
     next - page
 }
 
+// A page after this clean page with only clean pages between: past its group where it starts a group of clean pages.
+fn pass_clean(flags: &[u8], page: usize) -> usize
+    requires { ⌜ page < length (now flags) ⌝ }
+    requires { ⌜ bitAnd (flagAt (now flags) page) dirty ≡ 0 ⌝ }
+    ensures { λ r. ⌜ dirtyFrom (now (flags .entry)) page ≡ dirtyFrom (now (flags .entry)) r ⌝ }
+    ensures { λ r. ⌜ page < r ⌝ }
+{
+    let next = page + 1;
+    if page % GROUP != 0 {
+        return next;
+    }
+    if flags.len() - page < GROUP {
+        return next;
+    }
+    let mut joined: u8 = 0;
+    let mut i: usize = 0;
+    while i < GROUP {
+        joined = joined | flags[page + i];
+        i += 1;
+    }
+    if joined & FLAG_DIRTY != 0 {
+        return next;
+    }
+    page + GROUP
+}
+
 // The first run of dirty pages from a page on.
 fn dirty_from(flags: &[u8], from: usize) -> DirtySpan
     ensures { λ r. ⌜ dirtyFrom (now (flags .entry)) from ≡ dirtySpread (now (flags .entry)) r ⌝ }
@@ -100,7 +131,7 @@ fn dirty_from(flags: &[u8], from: usize) -> DirtySpan
             let pages = dirty_length(flags, page);
             return DirtySpan::Run { page, flag, pages };
         }
-        page += 1;
+        page = pass_clean(flags, page);
     }
     DirtySpan::End
 }
@@ -151,6 +182,36 @@ fn source_length(
     next - page
 }
 
+// A page after this page, which shows no entry, with only such pages between: past its group where it starts a group of
+// pages with no mark of a tracked page.
+fn pass_untracked(flags: &[u8], records: &[u64], page: usize) -> usize
+    requires { ⌜ page < length (now flags) ⌝ }
+    requires { ⌜ entryIn (now flags) (now records) page ≡ Tracking.Untracked ⌝ }
+    ensures { λ r. ⌜ sourcesFrom (now (flags .entry)) (now (records .entry)) page ≡ sourcesFrom (now (flags .entry)) (now (records .entry)) r ⌝ }
+    ensures { λ r. ⌜ page < r ⌝ }
+{
+    let next = page + 1;
+    if page % GROUP != 0 {
+        return next;
+    }
+    if flags.len() - page < GROUP {
+        return next;
+    }
+    if records.len() / WORDS < page + GROUP {
+        return next;
+    }
+    let mut marks: u64 = 0;
+    let mut i: usize = 0;
+    while i < GROUP {
+        marks = marks | records[(page + i) * WORDS + 2];
+        i += 1;
+    }
+    if marks >= TRACKED {
+        return next;
+    }
+    page + GROUP
+}
+
 // The first run of tracked clean pages from a page on.
 fn source_from(flags: &[u8], records: &[u64], from: usize) -> SourceSpan
     ensures { λ r. ⌜ sourcesFrom (now (flags .entry)) (now (records .entry)) from ≡ sourceSpread (now (flags .entry)) (now (records .entry)) r ⌝ }
@@ -171,7 +232,7 @@ fn source_from(flags: &[u8], records: &[u64], from: usize) -> SourceSpan
             }
             Tracking::Untracked => (),
         }
-        page += 1;
+        page = pass_untracked(flags, records, page);
     }
     SourceSpan::End
 }
@@ -314,15 +375,17 @@ fn write_head(file: &mut [u8], machine: Machine)
     write_registers(file, machine);
 }
 
-// The records of the source runs, from a record on.
-fn write_sources(flags: &[u8], records: &[u64], file: &mut [u8], from: usize)
+// The records of the source runs, of which there are `count`, from a record on.
+fn write_sources(flags: &[u8], records: &[u64], file: &mut [u8], from: usize, count: usize)
     requires { ⌜ length (now flags) * pageSize ≤ maximum ⌝ }
-    requires { ⌜ (from + length (sourcesFrom (now flags) (now records) 0)) * recordBytes ≤ length (now file) ⌝ }
+    requires { ⌜ count ≡ length (sourcesFrom (now flags) (now records) 0) ⌝ }
+    requires { ⌜ (from + count) * recordBytes ≤ length (now file) ⌝ }
     ensures { λ r. ⌜ now (file .exit) ≡ written (now (file .entry)) (from * recordBytes) (imageOf (sourceRecords (sourcesFrom (now (flags .entry)) (now (records .entry)) 0))) ⌝ }
 {
+    let end = from + count;
     let mut at = from;
     let mut p: usize = 0;
-    while p < flags.len() {
+    while at < end {
         let SourceSpan::Run {
             page,
             flag,
@@ -333,15 +396,17 @@ fn write_sources(flags: &[u8], records: &[u64], file: &mut [u8], from: usize)
         else {
             return;
         };
+        let address = page as u64 * PAGE;
+        let size = pages as u64 * PAGE;
         recordfile::encode(
             file,
             at,
             Record::Source {
-                address: page as u64 * PAGE,
+                address,
                 flag,
                 id,
                 offset,
-                size: pages as u64 * PAGE,
+                size,
             },
         );
         at += 1;
@@ -460,7 +525,7 @@ fn write_runs(
     ensures { λ r. ⌜ now (file .exit) ≡ written (now (file .entry)) (leastRecords * recordBytes) (imageOf (runRecords (now (slots .entry)) (now (flags .entry)) (now (area .entry)) (now (records .entry)))) ⌝ }
     ensures { λ r. ⌜ now (pages .exit) ≡ written (now (pages .entry)) 0 (contents (dirtyOut (now (slots .entry)) (now (flags .entry)) (now (area .entry)))) ⌝ }
 {
-    write_sources(flags, records, file, LEAST_RECORDS);
+    write_sources(flags, records, file, LEAST_RECORDS, sources);
     write_dirty(
         slots,
         flags,

@@ -13,10 +13,10 @@ use memory::Memory;
 use outcome::Outcome;
 
 // The words of a record.
-const WORDS: usize = machine::RECORD_WORDS as usize;
+pub const WORDS: usize = machine::RECORD_WORDS as usize;
 
 // A mark from here on is that of a tracked page, with the flag in its low eight bits.
-const TRACKED: u64 = 256;
+pub const TRACKED: u64 = 256;
 
 // Where a page's bytes come from: nowhere, or an item of the sources, by its id and an offset in it, with the page's flag.
 pub enum Tracking {

@@ -2,7 +2,8 @@
 use Prim.Native.Nat.{_-_}
 use lib.ListN.{length}
 use borrow.Author.Needs.{needs}
-use Rattle.snapshot.proofs.DirtyPages.{Seeking, seeking, seek-found, seek-inside, seek-on, seek-end}
+use Rattle.snapshot.proofs.DirtyPages.{Seeking, seeking, seek-found, seek-inside, seek-end}
+use Rattle.snapshot.proofs.Groups.{seek-past-clean}
 use Rattle.snapshot.proofs.make.dirty_from.Statement.{statement}
 use Rattle.snapshot.proofs.make.dirty_from.Tie as tie
 
@@ -24,14 +25,14 @@ dirty-length-requires c κs = (search needs, search needs)
 returns : tie.Need-returns Inv-loop μ-loop
 returns c = (search (needs, seek-found), search (needs, seek-inside))
 
-add-page : tie.Need-add-page Inv-loop μ-loop
-add-page c = search needs
+pass-clean-requires : tie.Need-pass-clean-requires Inv-loop μ-loop
+pass-clean-requires c κs = (search needs, search needs)
 
 loop-less : tie.Need-loop-less Inv-loop μ-loop
 loop-less c = search needs
 
 loop-again : tie.Need-loop-again Inv-loop μ-loop
-loop-again c = search (needs, seek-on)
+loop-again c = search (needs, seek-past-clean)
 
 returns-2 : tie.Need-returns-2 Inv-loop μ-loop
 returns-2 c = (search (needs, seek-end), tt)
@@ -46,7 +47,7 @@ dirty-from-spec =
     shared-slice-read-flag
     dirty-length-requires
     returns
-    add-page
+    pass-clean-requires
     loop-less
     loop-again
     returns-2)

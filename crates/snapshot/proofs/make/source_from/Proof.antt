@@ -2,7 +2,8 @@
 use Prim.Native.Nat.{_-_}
 use lib.ListN.{length}
 use borrow.Author.Needs.{needs}
-use Rattle.snapshot.proofs.SourcePages.{entry-read, Seeking, seeking, seek-found, seek-inside, seek-on, seek-end}
+use Rattle.snapshot.proofs.SourcePages.{entry-read, Seeking, seeking, seek-found, seek-inside, seek-end}
+use Rattle.snapshot.proofs.Groups.{none-read, seek-past-untracked}
 use Rattle.snapshot.proofs.make.source_from.Statement.{statement}
 use Rattle.snapshot.proofs.make.source_from.Tie as tie
 
@@ -30,14 +31,14 @@ returns c = (search (needs, seek-found), search (needs, seek-inside))
 enum-told : tie.Need-enum-told Inv-loop μ-loop
 enum-told c = search needs
 
-add-page : tie.Need-add-page Inv-loop μ-loop
-add-page c = search needs
+pass-untracked-requires : tie.Need-pass-untracked-requires Inv-loop μ-loop
+pass-untracked-requires c κs = (search needs, search (needs, none-read))
 
 loop-less : tie.Need-loop-less Inv-loop μ-loop
 loop-less c = search needs
 
 loop-again : tie.Need-loop-again Inv-loop μ-loop
-loop-again c = search (needs, seek-on)
+loop-again c = search (needs, seek-past-untracked)
 
 returns-2 : tie.Need-returns-2 Inv-loop μ-loop
 returns-2 c = (search (needs, seek-end), tt)
@@ -54,7 +55,7 @@ source-from-spec =
     source-length-requires
     returns
     enum-told
-    add-page
+    pass-untracked-requires
     loop-less
     loop-again
     returns-2)

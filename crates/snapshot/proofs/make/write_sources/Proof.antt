@@ -1,17 +1,19 @@
--- Invariant: the source runs that are left, from their record on, make all of them. Measure: how many pages are left.
+-- Invariant: the source runs that are left, from their record on, make all of them. Measure: how many are left.
 use Prim.Native.Nat.{_-_}
-use lib.ListN.{length}
 use borrow.Author.Needs.{needs}
-use Rattle.snapshot.proofs.Counting.{span-less, source-inside, source-end}
+use Rattle.snapshot.proofs.Counting.{source-end}
 use Rattle.snapshot.proofs.Files.{WritingSources, source-start, source-size, sources-first, sources-next, sources-none, sources-done}
 use Rattle.snapshot.proofs.make.write_sources.Statement.{statement}
 use Rattle.snapshot.proofs.make.write_sources.Tie as tie
 
 abbrev Inv-loop : tie.InvT-loop
-Inv-loop flags records file₀ from at₀ p₀ file at p = WritingSources flags records file₀ from file at p
+Inv-loop flags records file₀ from count end at₀ p₀ file at p = WritingSources flags records file₀ from end file at p
 
 abbrev μ-loop : tie.MeasureT-loop
-μ-loop flags records file₀ from at₀ p₀ file at p = length flags - p
+μ-loop flags records file₀ from count end at₀ p₀ file at p = end - at
+
+add-end : tie.Need-add-end Inv-loop μ-loop
+add-end c = search needs
 
 loop-holds : tie.Need-loop-holds Inv-loop μ-loop
 loop-holds c = search (needs, sources-first)
@@ -31,11 +33,11 @@ same-length c = search needs
 returns : tie.Need-returns Inv-loop μ-loop
 returns c = search (needs, sources-none)
 
-mul-t19 : tie.Need-mul-t19 Inv-loop μ-loop
-mul-t19 c = search (needs, source-start)
+mul-address : tie.Need-mul-address Inv-loop μ-loop
+mul-address c = search (needs, source-start)
 
-mul-t21 : tie.Need-mul-t21 Inv-loop μ-loop
-mul-t21 c = search (needs, source-size)
+mul-size : tie.Need-mul-size Inv-loop μ-loop
+mul-size c = search (needs, source-size)
 
 encode-requires : tie.Need-encode-requires Inv-loop μ-loop
 encode-requires c κs = search needs
@@ -47,7 +49,7 @@ add-p : tie.Need-add-p Inv-loop μ-loop
 add-p c = search (needs, source-end)
 
 loop-less : tie.Need-loop-less Inv-loop μ-loop
-loop-less c = search (needs, span-less, source-inside)
+loop-less c = search needs
 
 loop-again : tie.Need-loop-again Inv-loop μ-loop
 loop-again c = search (needs, sources-next)
@@ -64,14 +66,15 @@ write-sources-spec =
     (tie.spec
     Inv-loop
     μ-loop
+    add-end
     loop-holds
     source-from-requires
     enum-known-page
     enum-told
     same-length
     returns
-    mul-t19
-    mul-t21
+    mul-address
+    mul-size
     encode-requires
     add-at
     add-p

@@ -2,7 +2,6 @@
 pub mod Lengths
 pub mod Lent
 pub mod OnePage
-pub mod WholePage
 pub mod Store
 pub mod Fill
 pub mod Span

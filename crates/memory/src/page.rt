@@ -193,8 +193,8 @@ fn fetch_page(
     }
 }
 
-// Stores `source` at index `at` of one page, fetched first.
-fn store_fetched(
+// Stores `source` at index `at` of one page.
+fn store_part(
     slots: &mut [u16],
     flags: &mut [u8],
     area: &mut [u8],
@@ -224,74 +224,6 @@ fn store_fetched(
         outcome,
         memory: next,
     }
-}
-
-// Stores a whole page. All bytes of a slot that it takes are stored to: that slot isn't zeroed first.
-fn store_whole(
-    slots: &mut [u16],
-    flags: &mut [u8],
-    area: &mut [u8],
-    source: &[u8],
-    memory: Memory,
-    page: u64,
-) -> Answer
-    requires { ⌜ Fitting (length (now slots)) (length (now flags)) (length (now area)) memory ⌝ }
-    requires { ⌜ length (now source) ≡ pageSize ⌝ }
-    ensures { λ r. ⌜ answered r (now (slots .exit)) (now (flags .exit)) (now (area .exit)) ≡ storePage (stateOf (now (slots .entry)) (now (flags .entry)) (now (area .entry)) memory) page 0 (now (source .entry)) ⌝ }
-    ensures { λ r. ⌜ Kept (length (now (area .entry))) memory (r .memory) ⌝ }
-{
-    let pages = memory.size / PAGE;
-    if page >= pages {
-        return Answer {
-            outcome: Outcome::MemOutOfBound,
-            memory,
-        };
-    }
-    let p = page as usize;
-    let found = wide(slots[p]);
-    let used = memory.used;
-    if found == INVALID_PAGE_INDEX {
-        let slot = used as usize;
-        if slot >= area.len() / RISCV_PAGESIZE {
-            return Answer {
-                outcome: Outcome::AllSlotsInUse,
-                memory,
-            };
-        }
-        slots[p] = used as u16;
-        copy_into(flags, area, source, p, slot, 0);
-        let taken = Memory {
-            size: memory.size,
-            used: used + 1,
-            reservation: memory.reservation,
-        };
-        return Answer {
-            outcome: Outcome::Done,
-            memory: taken,
-        };
-    }
-    store_fetched(slots, flags, area, source, memory, page, 0)
-}
-
-// Stores `source` at index `at` of one page.
-fn store_part(
-    slots: &mut [u16],
-    flags: &mut [u8],
-    area: &mut [u8],
-    source: &[u8],
-    memory: Memory,
-    page: u64,
-    at: usize,
-) -> Answer
-    requires { ⌜ Fitting (length (now slots)) (length (now flags)) (length (now area)) memory ⌝ }
-    requires { ⌜ at + length (now source) ≤ pageSize ⌝ }
-    ensures { λ r. ⌜ answered r (now (slots .exit)) (now (flags .exit)) (now (area .exit)) ≡ storePage (stateOf (now (slots .entry)) (now (flags .entry)) (now (area .entry)) memory) page at (now (source .entry)) ⌝ }
-    ensures { λ r. ⌜ Kept (length (now (area .entry))) memory (r .memory) ⌝ }
-{
-    if source.len() == RISCV_PAGESIZE {
-        return store_whole(slots, flags, area, source, memory, page);
-    }
-    store_fetched(slots, flags, area, source, memory, page, at)
 }
 
 // Stores `n` bytes of one value at index `at` of one page.

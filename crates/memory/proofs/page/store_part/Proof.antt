@@ -1,11 +1,17 @@
--- `memory::page::store_part` meets its contract: a whole page starts at index 0.
+-- `memory::page::store_part` meets its contract: where the fetch is done, the slot is written.
 use borrow.Author.Needs.{needs}
-use Rattle.memory.proofs.WholePage.{whole-first}
+use Rattle.memory.proofs.OnePage.{flag-there, slot-room, page-written, page-refused}
 use Rattle.memory.proofs.page.store_part.Statement.{statement}
 use Rattle.memory.proofs.page.store_part.Tie as tie
 
-store-whole-requires : tie.Need-store-whole-requires
-store-whole-requires c κs = search needs
+fetch-page-requires : tie.Need-fetch-page-requires
+fetch-page-requires c κs = search needs
+
+is-done-requires : tie.Need-is-done-requires
+is-done-requires c κs = search needs
+
+copy-into-requires : tie.Need-copy-into-requires
+copy-into-requires c κs = (search flag-there, (search (needs, slot-room), search needs))
 
 same-length : tie.Need-same-length
 same-length c = search needs
@@ -17,10 +23,7 @@ same-length-3 : tie.Need-same-length-3
 same-length-3 c = search needs
 
 returns : tie.Need-returns
-returns c = (search (needs, whole-first), search needs)
-
-store-fetched-requires : tie.Need-store-fetched-requires
-store-fetched-requires c κs = search needs
+returns c = (search (needs, page-written), search needs)
 
 same-length-4 : tie.Need-same-length-4
 same-length-4 c = search needs
@@ -32,18 +35,19 @@ same-length-6 : tie.Need-same-length-6
 same-length-6 c = search needs
 
 returns-2 : tie.Need-returns-2
-returns-2 c = search needs
+returns-2 c = (search (needs, page-refused), search needs)
 
 pub store-part-spec : {M : Type 1} → statement M
 store-part-spec =
     tie.close
     (tie.spec
-    store-whole-requires
+    fetch-page-requires
+    is-done-requires
+    copy-into-requires
     same-length
     same-length-2
     same-length-3
     returns
-    store-fetched-requires
     same-length-4
     same-length-5
     same-length-6

@@ -2,6 +2,7 @@
 pub mod Lengths
 pub mod Lent
 pub mod OnePage
+pub mod MadeReady
 pub mod Store
 pub mod Fill
 pub mod Span

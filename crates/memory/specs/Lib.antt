@@ -7,5 +7,6 @@ pub mod Sparse
 pub mod WXorX
 pub mod Answers
 pub mod Inner
+pub mod Ready
 pub mod View
 pub mod Calls

@@ -13,6 +13,7 @@ ghost use Rattle.memory.specs.Operations.{does};
 ghost use Rattle.memory.specs.Sparse.{store, fillRest, fill};
 ghost use Rattle.memory.specs.Answers.{answered};
 ghost use Rattle.memory.specs.Inner.{Kept, Fetch, fetched, At};
+ghost use Rattle.memory.specs.Ready.{Ready};
 use super::Answer;
 use super::FLAG_DIRTY;
 use super::INVALID_PAGE_INDEX;
@@ -134,16 +135,29 @@ fn clear_slot(area: &mut [u8], slot: usize)
     words::fill(&mut area[start..end], 0);
 }
 
-// The slot of a page that is to be written: an absent page takes the lowest slot not in use, zeroed first.
+// Zeros a slot that `n` bytes are to be stored in, unless they are all its bytes.
+fn ready_slot(area: &mut [u8], slot: usize, n: usize)
+    requires { ⌜ slot < length (now area) / pageSize ⌝ }
+    ensures { λ _. ⌜ Ready 0 n slot (written (now (area .entry)) (slot * pageSize) (filled pageSize 0)) (now (area .exit)) ⌝ }
+{
+    if n == RISCV_PAGESIZE {
+        return;
+    }
+    clear_slot(area, slot);
+}
+
+// The slot of a page that `n` bytes are to be stored in: an absent page takes the lowest slot not in use, made ready.
 fn fetch_page(
     slots: &mut [u16],
     flags: &[u8],
     area: &mut [u8],
     memory: Memory,
     page: u64,
+    n: usize,
 ) -> Fetched
     requires { ⌜ Fitting (length (now slots)) (length (now flags)) (length (now area)) memory ⌝ }
-    ensures { λ r. ⌜ fetched r (now (slots .exit)) (now (flags .entry)) (now (area .exit)) ≡ fetchPage (stateOf (now (slots .entry)) (now (flags .entry)) (now (area .entry)) memory) page ⌝ }
+    ensures { λ r. ⌜ fetched r (now (slots .exit)) (now (flags .entry)) ((fetchPage (stateOf (now (slots .entry)) (now (flags .entry)) (now (area .entry)) memory) page) .1 .area) ≡ fetchPage (stateOf (now (slots .entry)) (now (flags .entry)) (now (area .entry)) memory) page ⌝ }
+    ensures { λ r. ⌜ Ready (numberOf (r .outcome)) n (r .slot) ((fetchPage (stateOf (now (slots .entry)) (now (flags .entry)) (now (area .entry)) memory) page) .1 .area) (now (area .exit)) ⌝ }
     ensures { λ r. ⌜ Fetch (numberOf (r .outcome)) page (r .slot) (now (slots .exit)) (length (now (area .entry))) memory (r .memory) ⌝ }
 {
     let pages = memory.size / PAGE;
@@ -166,7 +180,7 @@ fn fetch_page(
                 memory,
             };
         }
-        clear_slot(area, slot);
+        ready_slot(area, slot, n);
         slots[p] = used as u16;
         let taken = Memory {
             size: memory.size,
@@ -208,7 +222,7 @@ fn store_part(
     ensures { λ r. ⌜ answered r (now (slots .exit)) (now (flags .exit)) (now (area .exit)) ≡ storePage (stateOf (now (slots .entry)) (now (flags .entry)) (now (area .entry)) memory) page at (now (source .entry)) ⌝ }
     ensures { λ r. ⌜ Kept (length (now (area .entry))) memory (r .memory) ⌝ }
 {
-    let fetched = fetch_page(slots, flags, area, memory, page);
+    let fetched = fetch_page(slots, flags, area, memory, page, source.len());
     let outcome = fetched.outcome;
     let slot = fetched.slot;
     let next = fetched.memory;
@@ -242,7 +256,7 @@ fn fill_part(
     ensures { λ r. ⌜ answered r (now (slots .exit)) (now (flags .exit)) (now (area .exit)) ≡ storePage (stateOf (now (slots .entry)) (now (flags .entry)) (now (area .entry)) memory) page at (filled n value) ⌝ }
     ensures { λ r. ⌜ Kept (length (now (area .entry))) memory (r .memory) ⌝ }
 {
-    let fetched = fetch_page(slots, flags, area, memory, page);
+    let fetched = fetch_page(slots, flags, area, memory, page, n);
     let outcome = fetched.outcome;
     let slot = fetched.slot;
     let next = fetched.memory;

@@ -213,10 +213,10 @@ module _ {flags : List ℕ} {from page : ℕ} (g : Seeking flags from page) wher
   pub seek-inside : (n : ℕ) → (0 < n) × (page + n ≤ length flags) → Inside (length flags) from page n
   seek-inside n h = record { above = g .above; some = h .0; within = h .1 }
 
-  pub seek-on : page < length flags → bitAnd (flagAt flags page) dirty ≡ 0 → Seeking flags from (page + 1)
-  seek-on h z =
+  pub seek-on : (next : ℕ) → dirtyFrom flags page ≡ dirtyFrom flags next → page < next → Seeking flags from next
+  seek-on next e h =
       let above = g .above in
-      record { so-far = g .so-far ∙ dirty-clean flags page h z; above = omega arith }
+      record { so-far = g .so-far ∙ e; above = omega arith }
 
   pub seek-end : length flags ≤ page → dirtyFrom flags from ≡ []
   seek-end h = g .so-far ∙ dirty-past flags page h

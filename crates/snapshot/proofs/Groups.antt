@@ -1,5 +1,5 @@
 -- Groups of pages that are passed over at once: those with no dirty page, and those with no mark of a tracked page.
-use mathlib.Core.Path.{_≡_, refl, sym, ap, _∙_}
+use mathlib.Core.Path.{_≡_, refl, ap, _∙_}
 use mathlib.Core.List.{List}
 use Prim.Native.Nat.{ℕ, _+_, _-_, _*_, _/_, _≤_, _<_}
 use native.Mathlib.Omega.{arith}
@@ -16,9 +16,7 @@ use Rattle.tracking.specs.Records.{trackedMark}
 use Rattle.tracking.specs.Operations.{masked, entryIn}
 use Rattle.tracking.proofs.PageRecords.{read-untracked}
 use Rattle.snapshot.specs.Runs.{flagAt, dirtyFrom, sourcesFrom}
-use Rattle.snapshot.proofs.DirtyPages as dirty-pages
 use Rattle.snapshot.proofs.DirtyPages.{dirty-clean}
-use Rattle.snapshot.proofs.SourcePages as source-pages
 use Rattle.snapshot.proofs.SourcePages.{sources-untracked}
 
 -- the pages of a group
@@ -58,13 +56,6 @@ module _ {flags : List ℕ} {page joined i : ℕ} (g : Clean flags page joined i
       let some = g .some in
       let z : i ≡ group = omega arith in
       rw z at (g .so-far e)
-
--- clean pages are passed
-pub seek-past-clean : {flags : List ℕ} {from page : ℕ} → dirty-pages.Seeking flags from page → (next : ℕ)
-    → dirtyFrom flags page ≡ dirtyFrom flags next → page < next → dirty-pages.Seeking flags from next
-seek-past-clean g next e h =
-    let above = g .above in
-    record { so-far = g .so-far ∙ e; above = omega arith }
 
 -- ---- tracked pages
 
@@ -118,16 +109,3 @@ module _ {flags records : List ℕ} {page marks i : ℕ} (g : Low flags records 
       let some = g .some in
       let z : i ≡ group = omega arith in
       rw z at (g .so-far e)
-
--- an entry that was read shows nothing
-pub none-read : (flags records : List ℕ) (p : ℕ) (e : Tracking) → e ≡ entryIn flags records p → e ≡ Untracked
-    → entryIn flags records p ≡ Untracked
-none-read flags records p e q u = sym q ∙ u
-
--- pages with no entry are passed
-pub seek-past-untracked : {flags records : List ℕ} {from page : ℕ} → source-pages.Seeking flags records from page → (next : ℕ)
-    → sourcesFrom flags records page ≡ sourcesFrom flags records next → page < next
-    → source-pages.Seeking flags records from next
-seek-past-untracked g next e h =
-    let above = g .above in
-    record { so-far = g .so-far ∙ e; above = omega arith }

@@ -73,6 +73,10 @@ pub entry-read : (flags records : List ℕ) (p id offset flag : ℕ) (e : Tracki
     → e ≡ Tracked id offset flag → entryIn flags records p ≡ Tracked id offset flag
 entry-read flags records p id offset flag e q t = sym q ∙ t
 
+pub none-read : (flags records : List ℕ) (p : ℕ) (e : Tracking) → e ≡ entryIn flags records p → e ≡ Untracked
+    → entryIn flags records p ≡ Untracked
+none-read flags records p e q t = sym q ∙ t
+
 -- the offset of a page's entry is a word of its record
 abbrev Held : List ℕ → ℕ → ℕ → ℕ → ℕ → Tracking → Type 0
 Held records p id offset flag t = t ≡ Tracked id offset flag → offset ≡ getD records (p * recordWords + 1) 0
@@ -335,11 +339,11 @@ module _ {flags records : List ℕ} {from page : ℕ} (g : Seeking flags records
   pub seek-inside : (n : ℕ) → (0 < n) × (page + n ≤ length flags) → Inside (length flags) from page n
   seek-inside n h = record { above = g .above; some = h .0; within = h .1 }
 
-  pub seek-on : (e : Tracking) → page < length flags → e ≡ entryIn flags records page → e ≡ Untracked
-      → Seeking flags records from (page + 1)
-  seek-on e h q u =
+  pub seek-on : (next : ℕ) → sourcesFrom flags records page ≡ sourcesFrom flags records next → page < next
+      → Seeking flags records from next
+  seek-on next e h =
       let above = g .above in
-      record { so-far = g .so-far ∙ sources-untracked flags records page h (sym q ∙ u); above = omega arith }
+      record { so-far = g .so-far ∙ e; above = omega arith }
 
   pub seek-end : length flags ≤ page → sourcesFrom flags records from ≡ []
   seek-end h = g .so-far ∙ sources-past flags records page h

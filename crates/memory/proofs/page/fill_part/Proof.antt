@@ -1,6 +1,7 @@
 -- `memory::page::fill_part` meets its contract: where the fetch is done, the slot is written.
 use borrow.Author.Needs.{needs}
-use Rattle.memory.proofs.OnePage.{flag-there, slot-room, page-written, page-refused}
+use Rattle.memory.proofs.OnePage.{flag-there, slot-room}
+use Rattle.memory.proofs.MadeReady.{fill-written, fill-refused}
 use Rattle.memory.proofs.page.fill_part.Statement.{statement}
 use Rattle.memory.proofs.page.fill_part.Tie as tie
 
@@ -23,7 +24,7 @@ same-length-3 : tie.Need-same-length-3
 same-length-3 c = search needs
 
 returns : tie.Need-returns
-returns c = (search (needs, page-written), search needs)
+returns c = (search (needs, fill-written), search needs)
 
 same-length-4 : tie.Need-same-length-4
 same-length-4 c = search needs
@@ -35,7 +36,7 @@ same-length-6 : tie.Need-same-length-6
 same-length-6 c = search needs
 
 returns-2 : tie.Need-returns-2
-returns-2 c = (search (needs, page-refused), search needs)
+returns-2 c = (search (needs, fill-refused), search needs)
 
 pub fill-part-spec : {M : Type 1} → statement M
 fill-part-spec =

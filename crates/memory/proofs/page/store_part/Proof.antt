@@ -1,6 +1,7 @@
 -- `memory::page::store_part` meets its contract: where the fetch is done, the slot is written.
 use borrow.Author.Needs.{needs}
-use Rattle.memory.proofs.OnePage.{flag-there, slot-room, page-written, page-refused}
+use Rattle.memory.proofs.OnePage.{flag-there, slot-room}
+use Rattle.memory.proofs.MadeReady.{ready-written, ready-refused}
 use Rattle.memory.proofs.page.store_part.Statement.{statement}
 use Rattle.memory.proofs.page.store_part.Tie as tie
 
@@ -11,7 +12,9 @@ is-done-requires : tie.Need-is-done-requires
 is-done-requires c κs = search needs
 
 copy-into-requires : tie.Need-copy-into-requires
-copy-into-requires c κs = (search flag-there, (search (needs, slot-room), search needs))
+copy-into-requires c κs =
+    let got = c .before .before .before .before .before .before .before .before .before .fetch-page .ensures .1 .1 in
+    (search flag-there, (slot-room _ _ _ _ _ _ _ _ _ (search needs) got (c .before .before .before .is-done .ensures) (search needs), search needs))
 
 same-length : tie.Need-same-length
 same-length c = search needs
@@ -23,7 +26,7 @@ same-length-3 : tie.Need-same-length-3
 same-length-3 c = search needs
 
 returns : tie.Need-returns
-returns c = (search (needs, page-written), search needs)
+returns c = (search (needs, ready-written), search needs)
 
 same-length-4 : tie.Need-same-length-4
 same-length-4 c = search needs
@@ -35,7 +38,7 @@ same-length-6 : tie.Need-same-length-6
 same-length-6 c = search needs
 
 returns-2 : tie.Need-returns-2
-returns-2 c = (search (needs, page-refused), search needs)
+returns-2 c = (search (needs, ready-refused), search needs)
 
 pub store-part-spec : {M : Type 1} → statement M
 store-part-spec =

@@ -2,8 +2,7 @@
 use Prim.Native.Nat.{_-_}
 use lib.ListN.{length}
 use borrow.Author.Needs.{needs}
-use Rattle.snapshot.proofs.DirtyPages.{Seeking, seeking, seek-found, seek-inside, seek-end}
-use Rattle.snapshot.proofs.Groups.{seek-past-clean}
+use Rattle.snapshot.proofs.DirtyPages.{Seeking, seeking, seek-found, seek-inside, seek-on, seek-end}
 use Rattle.snapshot.proofs.make.dirty_from.Statement.{statement}
 use Rattle.snapshot.proofs.make.dirty_from.Tie as tie
 
@@ -32,7 +31,7 @@ loop-less : tie.Need-loop-less Inv-loop μ-loop
 loop-less c = search needs
 
 loop-again : tie.Need-loop-again Inv-loop μ-loop
-loop-again c = search (needs, seek-past-clean)
+loop-again c = search (needs, seek-on)
 
 returns-2 : tie.Need-returns-2 Inv-loop μ-loop
 returns-2 c = (search (needs, seek-end), tt)

@@ -49,7 +49,7 @@ unfoldable pub takeRuns : List Run → List SourceRun → Call Taken
 takeRuns runs sources =
     after notTaken (eachIn meetRun runs) (bind (collectIn readRun runs) (λ dirty. ret (taken sources dirty)))
 
--- "refusals 9": lengths, then a dirty page's slot
+-- lengths (9), then "a page's slot number met that isn't in use" (9), of the dirty pages
 unfoldable pub takePages : Call Taken
 takePages =
     fitting notTaken

@@ -7,3 +7,6 @@ pub mod Numbers
 pub mod Told
 -- document 01's table:
 pub mod Table
+-- programs that ask operations of one kind, and what stores and tracking come to on the view:
+pub mod Asks
+pub mod Effects

@@ -41,7 +41,7 @@ use Rattle.snapshot.specs.MakeSnapshot.{Taken, notTaken, askFlag, askEntry, mee
 use Rattle.snapshot.specs.Resume.{setFlags, storeRun, storeSource, restoreData, found, restoreSource, restoreDirty, restoreRuns, restorePages, restoreNumbers, restore, resumeFrom}
 use Rattle.snapshot.specs.Resume as snapshot
 use Rattle.handover.specs.View.{WellFormed, FormedMachine, WholeMachine}
-use Rattle.handover.specs.Calls.{Named, on-memory, on-numbers, load-data, track-pages, untrack-pages, store-bytes, mark-program, page-record, make-snapshot, resume, Answers, program, clearFlag}
+use Rattle.handover.specs.Calls.{Named, round-page-up, round-page-down, get-page-indices, on-memory, on-numbers, load-data, track-pages, untrack-pages, store-bytes, mark-program, page-record, make-snapshot, resume, Answers, program, clearFlag}
 use Rattle.handover.proofs.Ends.{each-of, each-map, ends-any, ends-onwards, ends-in, ends-below, ends-collect, ends-lift}
 use Rattle.handover.proofs.Replies.{Sort, any, formed, whole, Met, CanMemory, CanRecords, CanNumbers, Can, CanMachine, answers-only, machine-only}
 
@@ -481,6 +481,9 @@ numberOfReply machine.max-cycles? n = 0
 numberOfReply (machine.max-cycles! x) n = n
 
 abbrev pub numberIn : (c : Named) → Answers c → ℕ
+numberIn (round-page-up a) x = 0
+numberIn (round-page-down a) x = 0
+numberIn (get-page-indices a n) x = x .number
 numberIn (on-memory c) x = memory-calls.numberIn c x
 numberIn (on-numbers o) x = numberOfReply o x
 numberIn (load-data directory sources id offset wanted) x = x .place .number
@@ -557,6 +560,9 @@ module _ (k : ℕ) (Full : Type 0) (none : Foreign k) (not-7 : Full → 7 ≢ k)
 
   never : (c : Named) → numberIn c ((run machineDoes (program c) m) .0) ≢ k
   unfolding run
+  never (round-page-up a) = none .not-0
+  never (round-page-down a) = none .not-0
+  never (get-page-indices a n) = only-pageIndices ⊥ Full (m .0) Not (none .not-0) (none .not-2) not-9 a n
   never (on-memory c) = rw (answer-below (onMemory (memory-calls.program c)) m, answer-memory (memory-calls.program c) (m .0)) (below c)
   never (on-numbers o) = never-reply o
   never (load-data directory sources id offset wanted) =
@@ -569,8 +575,8 @@ module _ (k : ℕ) (Full : Type 0) (none : Foreign k) (not-7 : Full → 7 ≢ k)
   never (mark-program actions id offset) = on-good Not _ (only-markProgram ⊥ Full (m .0) Not (none .not-0) (none .not-2) not-9 actions id offset)
   never (page-record p) = on-good (λ (r : Recorded). r .number ≢ k) _ (only-pageRecord ⊥ Full (m .0) Not (none .not-0) (none .not-2) not-9 p)
   never (make-snapshot file pages) =
-      machine-only ⊥ Full (λ (x : Made). x .number ≢ k) (makeSnapshot file pages) m good
-      (only-makeSnapshot ⊥ Full (m .0) Not (none .not-0) (none .not-8) not-9 file pages)
+      machine-only ⊥ Full (λ (x : Made). x .number ≢ k) (makeSnapshot (length file) (length pages)) m good
+      (only-makeSnapshot ⊥ Full (m .0) Not (none .not-0) (none .not-8) not-9 (length file) (length pages))
   never (resume directory sources file pageFile) =
       machine-only ⊥ Full Not (snapshot.resume directory sources file pageFile) m good
       (only-resume ⊥ Full (m .0) Not (none .not-0) (none .not-2) not-9 (none .not-4) not-7 (none .not-6) (none .not-3) (none .not-1)

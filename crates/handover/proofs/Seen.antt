@@ -35,8 +35,9 @@ use Rattle.tracking.specs.declared.records.Tracking.{Tracking}
 use Rattle.tracking.specs.declared.records.Tracking.the-variants as tracking
 use Rattle.tracking.specs.Records.{trackedMark, recordOf, recordAt, withWords, withRecord}
 use Rattle.tracking.specs.Operations.{lengths?, entry?, track!, drop!, drop-all!, AnyOp, MachineOp, masked, entryIn, marked, clean, trackPage, dropPage, does, machineDoes, Call, MachineCall, top}
+use Rattle.recordfile.specs.Snapshots.{Each}
 use Rattle.handover.specs.View.{Whole, View, view, remasked, entry-at, trackedV, doesV, clearFlagV, MachineView, viewMachine, WholeMachine, machineDoesV}
-use Rattle.handover.specs.Calls.{Named, program, Given, named, clear-flag, clearFlag, Careful, AllCareful, answer, Told, told, answers, leaves}
+use Rattle.handover.specs.Calls.{Named, program, Given, named, clear-flag, make-fresh, clearFlag, Later, Careful, answer, Told, told, answers, leaves}
 use Rattle.handover.proofs.WellFormed.{whole-formed, lengths-reply, marked-whole, op-whole, clear-whole, given-whole, fresh-told, fresh-done}
 
 -- ---- the record of a dirty page is not seen
@@ -300,15 +301,21 @@ equal-given (named c) k m n wm wn e = equal-answers c m n wm wn e
 equal-given (clear-flag p f) k m n wm wn e =
     let h = equal-clear p f (k .0) (k .1) (m .0) (n .0) wm wn (ap (λ (v : MachineView). v .0) e) in
     (h .0, λ i. (h .1 i, e i .1))
+equal-given (make-fresh size version maximum) k m n wm wn e = absurd k
 
-pub equal-calls : (gs : List Given) → AllCareful gs → (m n : LentMachine) → WholeMachine m → WholeMachine n
+pub careful-later : (g : Given) → Careful g → Later g
+careful-later (named c) k = tt
+careful-later (clear-flag p f) k = tt
+careful-later (make-fresh size version maximum) k = absurd k
+
+pub equal-calls : (gs : List Given) → Each Careful gs → (m n : LentMachine) → WholeMachine m → WholeMachine n
     → viewMachine m ≡ viewMachine n
     → (answers gs m ≡ answers gs n) × (viewMachine (leaves gs m) ≡ viewMachine (leaves gs n))
-unfolding answers leaves
+unfolding answers leaves Each
 equal-calls [] k m n wm wn e = (refl, e)
 equal-calls (g ∷ gs) k m n wm wn e =
     let h = equal-given g (k .0) m n wm wn e in
-    let r = equal-calls gs (k .1) _ _ (given-whole g m wm) (given-whole g n wn) (h .1) in
+    let r = equal-calls gs (k .1) _ _ (given-whole g (careful-later g (k .0)) m wm) (given-whole g (careful-later g (k .0)) n wn) (h .1) in
     (ap₂ {C = List Told} (λ x l. told g x ∷ l) (h .0) (r .0), r .1)
 
 -- ---- a fresh machine

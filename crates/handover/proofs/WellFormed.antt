@@ -28,7 +28,8 @@ use Rattle.tracking.specs.declared.records.Tracking.the-variants as tracking
 use Rattle.tracking.specs.Records.{withRecord}
 use Rattle.tracking.specs.Operations.{lengths?, entry?, track!, drop!, drop-all!, AnyOp, MachineOp, fitsAll, fitsTracked, marked, clean, trackPage, dropPage, does, machineDoes, Call, MachineCall, top}
 use Rattle.handover.specs.View.{WellFormed, Whole, FormedMachine, WholeMachine}
-use Rattle.handover.specs.Calls.{Named, program, Given, named, clear-flag, clearFlag, answer, leaves}
+use Rattle.recordfile.specs.Snapshots.{Each}
+use Rattle.handover.specs.Calls.{Named, program, Given, named, clear-flag, make-fresh, clearFlag, answer, Later, leaves}
 
 -- ---- lengths
 
@@ -103,14 +104,15 @@ machine-lengths g m =
     kept machineDoes (λ n. SameLengths (m .0) (n .0)) (λ o n e. lengths-then _ _ _ e (machine-op-lengths o n)) g m
     (lengths-same (m .0))
 
-pub given-lengths : (g : Given) (m : LentMachine) → SameLengths (m .0) ((answer g m) .1 .0)
-given-lengths (named c) m = machine-lengths (program c) m
-given-lengths (clear-flag p f) m = clear-lengths p f (m .0)
+pub given-lengths : (g : Given) → Later g → (m : LentMachine) → SameLengths (m .0) ((answer g m) .1 .0)
+given-lengths (named c) l m = machine-lengths (program c) m
+given-lengths (clear-flag p f) l m = clear-lengths p f (m .0)
+given-lengths (make-fresh size version maximum) l m = absurd l
 
-pub calls-lengths : (gs : List Given) (m : LentMachine) → SameLengths (m .0) (leaves gs m .0)
-unfolding leaves
-calls-lengths [] m = lengths-same (m .0)
-calls-lengths (g ∷ gs) m = lengths-then _ _ _ (given-lengths g m) (calls-lengths gs ((answer g m) .1))
+pub calls-lengths : (gs : List Given) → Each Later gs → (m : LentMachine) → SameLengths (m .0) (leaves gs m .0)
+unfolding leaves Each
+calls-lengths [] l m = lengths-same (m .0)
+calls-lengths (g ∷ gs) l m = lengths-then _ _ _ (given-lengths g (l .0) m) (calls-lengths gs (l .1) ((answer g m) .1))
 
 -- ---- every operation
 
@@ -189,24 +191,26 @@ clear-kept p f m w = formed-same m _ (clear-lengths p f m) (memory-laws.clear-ke
 pub clear-whole : (p f : ℕ) (m : Tracked) → Whole m → Whole ((clearFlag p f m) .1)
 clear-whole p f m w = whole-same m _ (clear-lengths p f m) (memory-laws.clear-whole p f (m .0) (w .memory)) w
 
--- calls in turn
-pub given-kept : (g : Given) (m : LentMachine) → FormedMachine m → FormedMachine ((answer g m) .1)
-given-kept (named c) m w = call-kept c m w
-given-kept (clear-flag p f) m w = clear-kept p f (m .0) w
+-- calls in turn, of which none is fresh
+pub given-kept : (g : Given) → Later g → (m : LentMachine) → FormedMachine m → FormedMachine ((answer g m) .1)
+given-kept (named c) l m w = call-kept c m w
+given-kept (clear-flag p f) l m w = clear-kept p f (m .0) w
+given-kept (make-fresh size version maximum) l m w = absurd l
 
-pub given-whole : (g : Given) (m : LentMachine) → WholeMachine m → WholeMachine ((answer g m) .1)
-given-whole (named c) m w = call-whole c m w
-given-whole (clear-flag p f) m w = clear-whole p f (m .0) w
+pub given-whole : (g : Given) → Later g → (m : LentMachine) → WholeMachine m → WholeMachine ((answer g m) .1)
+given-whole (named c) l m w = call-whole c m w
+given-whole (clear-flag p f) l m w = clear-whole p f (m .0) w
+given-whole (make-fresh size version maximum) l m w = absurd l
 
-pub calls-kept : (gs : List Given) (m : LentMachine) → FormedMachine m → FormedMachine (leaves gs m)
-unfolding leaves
-calls-kept [] m w = w
-calls-kept (g ∷ gs) m w = calls-kept gs _ (given-kept g m w)
+pub calls-kept : (gs : List Given) → Each Later gs → (m : LentMachine) → FormedMachine m → FormedMachine (leaves gs m)
+unfolding leaves Each
+calls-kept [] l m w = w
+calls-kept (g ∷ gs) l m w = calls-kept gs (l .1) _ (given-kept g (l .0) m w)
 
-pub calls-whole : (gs : List Given) (m : LentMachine) → WholeMachine m → WholeMachine (leaves gs m)
-unfolding leaves
-calls-whole [] m w = w
-calls-whole (g ∷ gs) m w = calls-whole gs _ (given-whole g m w)
+pub calls-whole : (gs : List Given) → Each Later gs → (m : LentMachine) → WholeMachine m → WholeMachine (leaves gs m)
+unfolding leaves Each
+calls-whole [] l m w = w
+calls-whole (g ∷ gs) l m w = calls-whole gs (l .1) _ (given-whole g (l .0) m w)
 
 -- ---- a fresh machine
 

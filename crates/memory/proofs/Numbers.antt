@@ -234,13 +234,13 @@ module _ (k : ℕ) (own : Foreign k) where
   never-ends (store-bytes on-wxorx a bytes) = never-wxorx a bytes
   never-ends (store-wide on-sparse n a x) = never-sparse a (toLe n x)
   never-ends (store-wide on-wxorx n a x) = never-wxorx a (toLe n x)
-  never-ends (load-bytes a n room) = never-loadBytes a n room
+  never-ends (load-bytes a n out) = never-loadBytes a n (length out)
   never-ends (load-wide n a) = never-loadWide n a
   never-ends (execute-load on-sparse n a) = never-loadWide n a
   never-ends (execute-load on-wxorx n a) =
       never-fitting (λ v. v .number ≢ k) noValue _
       (ends-after (Can k) (λ n. n ≢ k) (λ v. v .number ≢ k) noValue _ _ (never-permitted executable a n) (λ n c. c) (never-load n a))
-  never-ends (load-c-string a room) = never-fitting (λ o. o .number ≢ k) noOutput _ (never-cString room a [])
+  never-ends (load-c-string a out) = never-fitting (λ o. o .number ≢ k) noOutput _ (never-cString (length out) a [])
   never-ends get-lr = λ r c. own .not-0
   never-ends (set-lr x) = λ r c. c
 

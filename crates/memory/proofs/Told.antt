@@ -27,10 +27,10 @@ said-once memory-pages x y e = value-once x y e
 said-once (store-byte l a n v) x y e = number-once x y e
 said-once (store-bytes l a bytes) x y e = number-once x y e
 said-once (store-wide l n a v) x y e = number-once x y e
-said-once (load-bytes a n room) x y e = e
+said-once (load-bytes a n out) x y e = e
 said-once (load-wide n a) x y e = valued-once x y e
 said-once (execute-load l n a) x y e = valued-once x y e
-said-once (load-c-string a room) x y e = e
+said-once (load-c-string a out) x y e = e
 said-once get-lr x y e = value-once x y e
 said-once (set-lr v) x y e = number-once x y e
 

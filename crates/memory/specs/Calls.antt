@@ -1,7 +1,9 @@
 -- The public calls on a memory as data: what each is given, what it answers, and its meaning, by the definitions that its promise
--- cites. Outputs are lent by their length: what is laid into them is part of the answer.
+-- cites. An output is lent with its content: what is laid into it is part of the answer, and `left` is what it then holds.
 use mathlib.Core.List.{List, [], _∷_}
 use Prim.Native.Nat.{ℕ}
+use lib.ListN.{length}
+use Rattle.words.specs.Bytes.{written}
 use Rattle.program.specs.Program.{run}
 use Rattle.memory.specs.Storage.{State, Valued}
 use Rattle.memory.specs.Operations.{Call, does}
@@ -27,10 +29,10 @@ pub data Named : Type 0 where
   store-byte : Layer → ℕ → ℕ → ℕ → Named
   store-bytes : Layer → ℕ → List ℕ → Named
   store-wide : Layer → ℕ → ℕ → ℕ → Named
-  load-bytes : ℕ → ℕ → ℕ → Named
+  load-bytes : ℕ → ℕ → List ℕ → Named
   load-wide : ℕ → ℕ → Named
   execute-load : Layer → ℕ → ℕ → Named
-  load-c-string : ℕ → ℕ → Named
+  load-c-string : ℕ → List ℕ → Named
   get-lr : Named
   set-lr : ℕ → Named
 
@@ -46,10 +48,10 @@ Answers memory-pages = ℕ
 Answers (store-byte l a n v) = ℕ
 Answers (store-bytes l a bytes) = ℕ
 Answers (store-wide l n a x) = ℕ
-Answers (load-bytes a n room) = Output
+Answers (load-bytes a n out) = Output
 Answers (load-wide n a) = Valued
 Answers (execute-load l n a) = Valued
-Answers (load-c-string a room) = Output
+Answers (load-c-string a out) = Output
 Answers get-lr = ℕ
 Answers (set-lr x) = ℕ
 
@@ -69,11 +71,11 @@ program (store-bytes on-sparse a bytes) = sparse.storeBytes a bytes
 program (store-bytes on-wxorx a bytes) = wxorx.storeBytes a bytes
 program (store-wide on-sparse n a x) = sparse.storeWide n a x
 program (store-wide on-wxorx n a x) = wxorx.storeWide n a x
-program (load-bytes a n room) = loadBytes a n room
+program (load-bytes a n out) = loadBytes a n (length out)
 program (load-wide n a) = loadWide n a
 program (execute-load on-sparse n a) = loadWide n a
 program (execute-load on-wxorx n a) = wxorx.executeLoad n a
-program (load-c-string a room) = loadCString a room
+program (load-c-string a out) = loadCString a (length out)
 program get-lr = lr
 program (set-lr x) = setLr x
 
@@ -91,12 +93,32 @@ said memory-pages n = output 0 n []
 said (store-byte l a n v) r = noOutput r
 said (store-bytes l a bytes) n = noOutput n
 said (store-wide l n a x) r = noOutput r
-said (load-bytes a n room) o = o
+said (load-bytes a n out) o = o
 said (load-wide n a) v = output (v .number) (v .value) []
 said (execute-load l n a) v = output (v .number) (v .value) []
-said (load-c-string a room) o = o
+said (load-c-string a out) o = o
 said get-lr n = output 0 n []
 said (set-lr x) n = noOutput n
+
+-- what a call leaves in the output that is lent to it; "output past the size stays", "the rest unchanged"
+abbrev pub left : (c : Named) → Answers c → List (List ℕ)
+left (init-pages l a size flags lead source) n = []
+left (fill-page-data a size lead source) n = []
+left (fetch-flag p) v = []
+left (set-flag p f) n = []
+left (check-permission first last want) n = []
+left (set-dirty first last) n = []
+left memory-size n = []
+left memory-pages n = []
+left (store-byte l a n v) r = []
+left (store-bytes l a bytes) n = []
+left (store-wide l n a x) r = []
+left (load-bytes a n out) o = written out 0 (o .bytes) ∷ []
+left (load-wide n a) v = []
+left (execute-load l n a) v = []
+left (load-c-string a out) o = written out 0 (o .bytes) ∷ []
+left get-lr n = []
+left (set-lr x) n = []
 
 abbrev pub numberIn : (c : Named) → Answers c → ℕ
 numberIn c x = said c x .number

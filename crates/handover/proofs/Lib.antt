@@ -10,3 +10,9 @@ pub mod Table
 -- programs that ask operations of one kind, and what stores and tracking come to on the view:
 pub mod Asks
 pub mod Effects
+pub mod Storing
+pub mod Filling
+pub mod Tracked
+-- what the runs of a snapshot say of pages, and what an item gives for several:
+pub mod RunPages
+pub mod SourceData

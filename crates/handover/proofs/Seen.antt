@@ -11,7 +11,7 @@ use lib.ListN.{length, getD, set, length-set}
 use lib.Seq.{getD-set-same, getD-set-other}
 use lib.Dec.{ltb, leb, eqb}
 use lib.Bits.{bitAnd, bitOr, and-le-r}
-use borrow.Author.Tests.{lt-ltb, le-ltb, eq-eqb, ne-eqb, eqb-true, eqb-false, ltb-true}
+use borrow.Author.Tests.{le-ltb, eq-eqb, ne-eqb, eqb-true, eqb-false, ltb-true}
 use Rattle.bits.specs.Rounding.{pageSize}
 use Rattle.words.specs.Bytes.{filled}
 use Rattle.words.proofs.Filled.{filled-zero}
@@ -19,12 +19,10 @@ use Rattle.program.specs.Program.{run}
 use Rattle.program.specs.Layers.{low, own}
 use Rattle.program.proofs.Like.{Like, commutes, alike, like-beside}
 use Rattle.memory.specs.Pages.{dirty}
-use Rattle.memory.specs.Storage.{State, stateOf, orFlag, andFlag}
+use Rattle.memory.specs.Storage.{State, stateOf, orFlag}
 use Rattle.memory.specs.Operations.{or! }
-use Rattle.memory.specs.Sparse as sparse
 use Rattle.memory.specs.View as memory
 use Rattle.memory.proofs.StoreCases.{cases}
-use Rattle.memory.proofs.Replies as memory-replies
 use Rattle.memory.proofs.Dirty.{dirty-set, dirty-cleared}
 use Rattle.memory.proofs.WellFormed as memory-formed
 use Rattle.memory.proofs.Seen as memory-laws
@@ -176,11 +174,7 @@ module _ (m : Tracked) (w : Whole m) (p id offset : ℕ) (inside : p < length (m
 
   flag-seen : memory.view (stateOf (m .0 .slots) (set (m .0 .flags) p f) (m .0 .area) (m .0 .memory))
       ≡ memory.flagged (memory.view (m .0)) p f
-  unfolding sparse.clearFlag andFlag
-  flag-seen =
-      let h : p < m .0 .memory .size / pageSize = omega (arith, w .memory .formed .fit .flags-are) in
-      simp (memory-replies.lengths-reply (m .0) (w .memory .formed), lt-ltb p _ inside, lt-ltb p _ h) at
-      (memory-laws.clear-seen p dirty (m .0) (w .memory) .seen)
+  flag-seen = memory-laws.flag-seen (m .0) (w .memory .formed) p f (omega (arith, w .memory .formed .fit .flags-are))
 
   entry-seen : entryIn (set (m .0 .flags) p f) (withRecord (m .1) p t) ≡ entry-at (entryIn (m .0 .flags) (m .1)) p t
   unfolding entry-at

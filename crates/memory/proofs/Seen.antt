@@ -41,7 +41,7 @@ set-at-one l p v h =
 -- ---- one page
 
 -- a flag changed
-flag-seen : (s : State) → WellFormed s → (p f : ℕ) → p < s .memory .size / pageSize
+pub flag-seen : (s : State) → WellFormed s → (p f : ℕ) → p < s .memory .size / pageSize
     → view (stateOf (s .slots) (set (s .flags) p f) (s .area) (s .memory)) ≡ flagged (view s) p f
 flag-seen s w p f h =
     ap (λ (g : ℕ → ℕ). record { byte = byteAt s; flag = g; size = s .memory .size; reservation = s .memory .reservation })

@@ -16,3 +16,12 @@ pub mod Tracked
 -- what the runs of a snapshot say of pages, and what an item gives for several:
 pub mod RunPages
 pub mod SourceData
+-- a snapshot's runs restored on a blank memory:
+pub mod RestoredRun
+pub mod Restoring
+-- machines that our calls reach:
+pub mod Reaching
+pub mod InTypes
+-- the handover theorem:
+pub mod Agreeing
+pub mod Theorem

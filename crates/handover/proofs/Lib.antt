@@ -13,8 +13,7 @@ pub mod Effects
 pub mod Storing
 pub mod Filling
 pub mod Tracked
--- what the runs of a snapshot say of pages, and what an item gives for several:
-pub mod RunPages
+-- what an item of the sources gives for several pages:
 pub mod SourceData
 -- a snapshot's runs restored on a blank memory:
 pub mod RestoredRun
@@ -22,6 +21,14 @@ pub mod Restoring
 -- machines that our calls reach:
 pub mod Reaching
 pub mod InTypes
+-- which calls keep a machine sound:
+pub mod Gentle
+pub mod Steps
+pub mod KeptTracking
+pub mod KeptStores
+pub mod KeptSources
+pub mod KeptInit
+pub mod Kept
 -- the handover theorem:
 pub mod Agreeing
 pub mod Theorem

@@ -30,7 +30,7 @@ use Rattle.handover.proofs.Seen.{mask-clean, mask-dirty}
 use Rattle.handover.proofs.Effects.{Masked, Tracks}
 use Rattle.handover.proofs.Storing.{done-then}
 use Rattle.handover.proofs.Tracked.{RunStored, run-stored, pages-tracked}
-use Rattle.handover.proofs.RunPages.{SourceFront, DirtyFront, front-offset}
+use Rattle.snapshot.proofs.RunPages.{SourceFront, DirtyFront, front-offset}
 use Rattle.handover.proofs.SourceData.{run-data}
 
 -- ---- flags

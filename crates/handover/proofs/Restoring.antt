@@ -27,7 +27,7 @@ use Rattle.handover.proofs.Seen.{mask-clean, blank}
 use Rattle.handover.proofs.Effects.{Masked}
 use Rattle.handover.proofs.Storing.{done-then}
 use Rattle.handover.proofs.Tracked.{on-memory}
-use Rattle.handover.proofs.RunPages.{SourcesLaid, DirtyLaid, sources-laid, dirty-laid}
+use Rattle.snapshot.proofs.RunPages.{SourcesLaid, DirtyLaid, sources-laid, dirty-laid}
 use Rattle.handover.proofs.RestoredRun.{getD-span, Same, same, same-then, zone, Restores, pageCount, tracked-not, dirty-untracked, dirty-restored, source-restored}
 pub use Rattle.handover.proofs.RestoredRun.{Right, readSeen}
 

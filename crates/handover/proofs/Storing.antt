@@ -92,7 +92,7 @@ module _ (byte : ℕ → ℕ) (a : ℕ) (bytes : List ℕ) where
   placed-out x (inr h) = rw (le-ltb x a (omega arith), le-ltb x (a + length bytes) h)
 
 -- no bytes
-stored-none : (v : memory.View) (a : ℕ) (bytes : List ℕ) → length bytes ≡ 0 → Stored v a bytes (0, v)
+pub stored-none : (v : memory.View) (a : ℕ) (bytes : List ℕ) → length bytes ≡ 0 → Stored v a bytes (0, v)
 stored-none v a bytes e =
     record {
       done = refl;

@@ -217,7 +217,7 @@ module _ (slots flags area records : List ℕ) (m : Machine) where
           pc-word = t .pc-word;
           cycles-word = t .cycles-word;
           maximum-word = t .maximum-word;
-          reservation-word = t .reservation-word;
+          reservation-word = omega (arith, t .reservation-word);
           registers-are = t .registers-are;
           register-words = each-word (m .registers) (t .register-words);
           sources-ranged = sources-ranged (length flags) _ few-pages (sources-fit flags records (t .record-words));

@@ -5,6 +5,8 @@ pub mod SourcePages
 pub mod Groups
 pub mod Counting
 pub mod Merged
+-- what runs say of each page:
+pub mod RunPages
 -- a snapshot's program on lent lists, its second pass, and each way in which the call ends:
 pub mod TakenNow
 pub mod Writing

@@ -4,7 +4,7 @@ use mathlib.Core.List.{List, [], _∷_}
 use Prim.Native.Nat.{ℕ, zero, suc, _+_}
 use lib.Dec.{eqb}
 use Rattle.program.specs.Program.{Prog, ret, ask, run, bind, onwards, after, each, eachIn, collect, collectIn}
-use Rattle.program.specs.Layers.{Plus, low, own, ReplyPlus, lift}
+use Rattle.program.specs.Layers.{Plus, low, ReplyPlus, lift}
 use Rattle.recordfile.specs.Snapshots.{Each}
 
 module _ {Op : Type 0} {Reply : Op → Type 0} (P : Op → Type 0) where

@@ -2,26 +2,24 @@
 -- Every call that is given such numbers keeps it so, and every machine that our calls reach is so.
 use mathlib.Core.Path.{_≡_, subst}
 use mathlib.Core.List.{List, [], _∷_}
-use Prim.Native.Nat.{ℕ, zero, suc, _+_, _-_, _*_, _/_, _%_, _^_, _≤_, _<_}
+use Prim.Native.Nat.{ℕ, zero, suc, _+_, _-_, _*_, _%_, _≤_, _<_}
 use native.Mathlib.Omega.{arith}
 use lib.ListN.{length, getD, set, length-set}
 use lib.Seq.{getD-set-other}
-use lib.Bits.{bitAnd, bitOr, or-lt, and-le-l, and-le-r}
+use lib.Bits.{bitOr, or-lt, and-le-l, and-le-r}
 use lib.Dec.{eqb, ltb, leb}
 use borrow.Author.Tests.{eqb-true, leb-true}
 use Rattle.bits.specs.Rounding.{pageSize}
 use Rattle.words.specs.Bytes.{filled}
-use Rattle.words.specs.LittleEndian.{Small, toLe}
+use Rattle.words.specs.LittleEndian.{Small}
 use Rattle.words.proofs.Filled.{length-filled, filled-zero}
-use Rattle.program.specs.Program.{ret, perform, after, each, eachIn, collect, collectIn}
-use Rattle.program.specs.Layers.{low, own, lift}
-use Rattle.memory.specs.Pages.{pageIndices, dirty, writable, executable, frozen, cleared}
+use Rattle.program.specs.Program.{ret, perform, each}
+use Rattle.program.specs.Layers.{low, own}
+use Rattle.memory.specs.Pages.{dirty, cleared}
 use Rattle.memory.specs.Storage.{State, orFlag, andFlag, storePage, takeSlot, writePage, fits}
 use Rattle.memory.specs.Operations as memory-op
-use Rattle.memory.specs.Sparse.{noOutput, fetchFlag, setFlag, memorySize, memoryPages, lr, setLr, permit, permits, checkPermission, marks, setDirty, storeOver, store, fillRest, fill, fillPageData, meets, load, loadWide, reach, loadBytes, nextByte, cString, loadCString}
+use Rattle.memory.specs.Sparse.{setFlag, setLr}
 use Rattle.memory.specs.Sparse as sparse
-use Rattle.memory.specs.WXorX.{permitted, initFlag, inBounds, initPages, executeLoad}
-use Rattle.memory.specs.WXorX as wxorx
 use Rattle.memory.specs.Calls as memory
 use Rattle.memory.proofs.StoreCases.{cases, PageStored, past, full, wild, took, had, page-stored}
 use Rattle.machine.specs.Fresh.{Tracked, LentMachine, recordWords, fresh}
@@ -33,20 +31,17 @@ use Rattle.recordfile.specs.Snapshots.{SourceRun, DirtyRun, Snapshot, snapshotI
 use Rattle.recordfile.proofs.RoundTrip.{ranged-in}
 use Rattle.tracking.specs.declared.records.Tracking.{Tracking}
 use Rattle.tracking.specs.declared.records.Tracking.the-variants as tracking
-use Rattle.tracking.specs.declared.context.LoadingAction.{LoadingAction}
 use Rattle.tracking.specs.Records.{trackedMark, recordOf, recordAt, withWords}
-use Rattle.tracking.specs.Sources.{findData, dataOf}
-use Rattle.tracking.specs.Operations.{lengths?, entry?, track!, drop!, drop-all!, Reply, AnyOp, AnyReply, MachineOp, marked, clean, trackPage, dropPage, does, machineDoes, Call, MachineCall, fitting, onMemory, top}
-use Rattle.tracking.specs.Tracking.{distance, trackFrom, trackWhole, track, trackPages, dropWhole, untrack, untrackPages, notStored, storeTracked, replace, storeData, storeFound, storeBytes, actionAt, markAction, markActions, markProgram, notRecorded, pageRecord}
-use Rattle.snapshot.specs.Runs.{dirtyRuns}
-use Rattle.snapshot.specs.MakeSnapshot.{notTaken, askFlag, askEntry, meetRun, readRun, takeRuns, takePages, askKept, notMade, makeSnapshot}
+use Rattle.tracking.specs.Sources.{dataOf}
+use Rattle.tracking.specs.Operations.{lengths?, entry?, track!, drop!, drop-all!, AnyOp, MachineOp, marked, clean, trackPage, dropPage, does, machineDoes, onMemory, top}
 use Rattle.snapshot.specs.Resume.{setFlags, storeRun, storeSource, restoreData, found, restoreSource, restoreDirty, restoreRuns, restorePages, restoreNumbers, restore, resumeFrom}
 use Rattle.snapshot.specs.Resume as snapshot
 use Rattle.snapshot.proofs.Bounds as bounds
 use Rattle.handover.specs.Calls.{Named, round-page-up, round-page-down, get-page-indices, on-memory, on-numbers, load-data, track-pages, untrack-pages, store-bytes, mark-program, page-record, make-snapshot, resume, program, Given, named, clear-flag, make-fresh, Later, answer, leaves}
 use Rattle.handover.specs.Reached.{TypedMemory, TypedNumbers, TypedNamed, Typed, Reached}
-use Rattle.handover.proofs.Ends.{each-of, each-map}
-use Rattle.handover.proofs.Asks.{Asks, asks-kept, asks-cond, asks-bind, asks-onwards, asks-after, asks-each, asks-in, asks-collect, asks-collectIn, asks-lift}
+use Rattle.handover.proofs.Ends.{each-map}
+use Rattle.handover.proofs.Asks.{asks-kept, asks-cond, asks-onwards, asks-after, asks-each, asks-in}
+use Rattle.handover.proofs.CallsAsk.{Asking, Setting, setting-asks, AskingTracked, AskingMachine, OnMemory, OnTracked, OnMachine, Kind, asks, sets, inits, kind, asks-setFlag, asks-wxorx, asks-initPages, asks-onMemory, asks-untrackPages, asks-pageRecord, asks-trackPages, asks-storeBytes, asks-markProgram, asks-onMachine, asks-makeSnapshot}
 use Rattle.handover.proofs.WellFormed.{fresh-done}
 
 -- ---- what a machine keeps
@@ -98,16 +93,7 @@ or-byte f g h k = or-lt 8 f g h k
 
 -- operations of the kind that the types allow
 abbrev InMemory : memory-op.Op → Type 0
-InMemory memory-op.lengths? = Unit {0}
-InMemory memory-op.size? = Unit {0}
-InMemory memory-op.lr? = Unit {0}
-InMemory (memory-op.flag? p) = Unit {0}
-InMemory (memory-op.meet? p) = Unit {0}
-InMemory (memory-op.byte? a) = Unit {0}
-InMemory (memory-op.bytes? a n) = Unit {0}
-InMemory (memory-op.part! a bytes) = Unit {0}
-InMemory (memory-op.or! p f) = f < flagValues
-InMemory (memory-op.lr! x) = Word x
+InMemory = Setting (λ f. f < flagValues) Word
 
 abbrev InAny : AnyOp → Type 0
 InAny (low o) = InMemory o
@@ -239,332 +225,78 @@ word-at [] i each = omega arith
 word-at (x ∷ l) zero each = each .0
 word-at (x ∷ l) (suc i) each = word-at l i (each .1)
 
-register-kept : (i x : ℕ) → Word x → (n : Numbers) → NumbersIn n → NumbersIn ((setRegister i x n) .1)
-unfolding setRegister
-register-kept i x k n w =
-    cases (λ (r : ℕ × Numbers). NumbersIn (r .1)) (ltb i generalRegisters) _ _
-    (λ e.
+numbers-in : (n : Numbers) → n .version < versions → Word (n .pc) → Word (n .next-pc) → Word (n .cycles) → Word (n .max-cycles)
+    → length (n .registers) ≡ generalRegisters → ((i : ℕ) → Word (getD (n .registers) i 0)) → NumbersIn n
+numbers-in n version pc next cycles maximum are registers =
     record {
-      version-small = w .version-small;
-      pc-word = w .pc-word;
-      next-pc-word = w .next-pc-word;
-      cycles-word = w .cycles-word;
-      maximum-word = w .maximum-word;
-      registers-are = omega (arith, length-set (n .registers) i x, w .registers-are);
-      register-words = λ j. set-any Word (n .registers) i x j k (w .register-words j);
-    })
-    (λ e. w)
+      version-small = version;
+      pc-word = pc;
+      next-pc-word = next;
+      cycles-word = cycles;
+      maximum-word = maximum;
+      registers-are = are;
+      register-words = registers;
+    }
 
 numbers-kept : (o : machine.Op) → TypedNumbers o → (n : Numbers) → NumbersIn n → NumbersIn ((machine.does o n) .1)
+unfolding setRegister
 numbers-kept machine.registers? k n w = w
 numbers-kept (machine.registers! l) k n w =
-    record {
-      version-small = w .version-small;
-      pc-word = w .pc-word;
-      next-pc-word = w .next-pc-word;
-      cycles-word = w .cycles-word;
-      maximum-word = w .maximum-word;
-      registers-are = k .0;
-      register-words = λ i. word-at l i (k .1);
-    }
+    numbers-in _ (w .version-small) (w .pc-word) (w .next-pc-word) (w .cycles-word) (w .maximum-word) (k .0) (λ i. word-at l i (k .1))
 numbers-kept (machine.register? i) k n w = w
-numbers-kept (machine.register! i x) k n w = register-kept i x k n w
+numbers-kept (machine.register! i x) k n w =
+    cases (λ (r : ℕ × Numbers). NumbersIn (r .1)) (ltb i generalRegisters) _ _
+    (λ e.
+    numbers-in _ (w .version-small) (w .pc-word) (w .next-pc-word) (w .cycles-word) (w .maximum-word)
+    (omega (arith, length-set (n .registers) i x, w .registers-are))
+    (λ j. set-any Word (n .registers) i x j k (w .register-words j)))
+    (λ e. w)
 numbers-kept machine.pc? k n w = w
 numbers-kept (machine.pc! x) k n w =
-    record {
-      version-small = w .version-small;
-      pc-word = w .pc-word;
-      next-pc-word = k;
-      cycles-word = w .cycles-word;
-      maximum-word = w .maximum-word;
-      registers-are = w .registers-are;
-      register-words = w .register-words;
-    }
+    numbers-in _ (w .version-small) (w .pc-word) k (w .cycles-word) (w .maximum-word) (w .registers-are) (w .register-words)
 numbers-kept machine.commit! k n w =
-    record {
-      version-small = w .version-small;
-      pc-word = w .next-pc-word;
-      next-pc-word = w .next-pc-word;
-      cycles-word = w .cycles-word;
-      maximum-word = w .maximum-word;
-      registers-are = w .registers-are;
-      register-words = w .register-words;
-    }
+    numbers-in _ (w .version-small) (w .next-pc-word) (w .next-pc-word) (w .cycles-word) (w .maximum-word) (w .registers-are)
+    (w .register-words)
 numbers-kept machine.version? k n w = w
 numbers-kept machine.cycles? k n w = w
 numbers-kept (machine.cycles! x) k n w =
-    record {
-      version-small = w .version-small;
-      pc-word = w .pc-word;
-      next-pc-word = w .next-pc-word;
-      cycles-word = k;
-      maximum-word = w .maximum-word;
-      registers-are = w .registers-are;
-      register-words = w .register-words;
-    }
+    numbers-in _ (w .version-small) (w .pc-word) (w .next-pc-word) k (w .maximum-word) (w .registers-are) (w .register-words)
 numbers-kept machine.max-cycles? k n w = w
 numbers-kept (machine.max-cycles! x) k n w =
-    record {
-      version-small = w .version-small;
-      pc-word = w .pc-word;
-      next-pc-word = w .next-pc-word;
-      cycles-word = w .cycles-word;
-      maximum-word = k;
-      registers-are = w .registers-are;
-      register-words = w .register-words;
-    }
+    numbers-in _ (w .version-small) (w .pc-word) (w .next-pc-word) (w .cycles-word) k (w .registers-are) (w .register-words)
 
 machine-op-kept : (o : MachineOp) → InMachine o → (m : LentMachine) → MachineIn m → MachineIn ((machineDoes o m) .1)
 machine-op-kept (low o) k m w = record { storage = op-kept o k (m .0) (w .storage); numbers = w .numbers }
 machine-op-kept (own o) k m w = record { storage = w .storage; numbers = numbers-kept o k (m .1) (w .numbers) }
 
--- ---- what the calls on a memory ask
+-- ---- what the calls ask
 
-abbrev OnMemory : {A : Type 0} → memory-op.Call A → Type 0
-OnMemory g = Asks InMemory g
+in-memory : Asking InMemory
+in-memory = setting-asks _ _
 
-memory-fitting : {A : Type 0} (refused : ℕ → A) (g : memory-op.Call A) → OnMemory g → OnMemory (memory-op.fitting refused g)
-unfolding memory-op.fitting
-memory-fitting refused g a = (tt, λ b. asks-cond InMemory b g (ret (refused 9)) a tt)
+in-storage : AskingTracked InAny
+in-storage = record { memory = in-memory; lengths = tt; entry = λ p. tt; drop = λ p. tt }
 
-memory-then : (g k : memory-op.Call ℕ) → OnMemory g → OnMemory k → OnMemory (after (λ n. n) g k)
-memory-then g k a b = asks-after InMemory (λ n. n) g k a b
+in-machine : AskingMachine InMachine
+in-machine = record { storage = in-storage; registers = tt; version = tt; pc = tt; cycles = tt; maximum = tt }
 
-asks-storeOver : (n a : ℕ) (bytes : List ℕ) → OnMemory (storeOver n a bytes)
-unfolding storeOver
-asks-storeOver zero a bytes = tt
-asks-storeOver (suc n) a bytes =
-    asks-cond InMemory (eqb (length bytes) 0) (ret 0) _ tt
-    (memory-then (perform (memory-op.part! a bytes)) (storeOver n _ _) (tt, λ r. tt) (asks-storeOver n _ _))
-
-asks-store : (a : ℕ) (bytes : List ℕ) → OnMemory (store a bytes)
-unfolding store
-asks-store a bytes = asks-storeOver (length bytes) a bytes
-
-asks-sparse : (a : ℕ) (bytes : List ℕ) → OnMemory (sparse.storeBytes a bytes)
-unfolding sparse.storeBytes
-asks-sparse a bytes = memory-fitting (λ n. n) (store a bytes) (asks-store a bytes)
-
-asks-permits : (first last want : ℕ) → OnMemory (permits first last want)
-unfolding permits permit
-asks-permits first last want =
-    asks-each InMemory (permit want) (λ p. (tt, λ f. asks-onwards InMemory (λ n. n) (ret _) (f .number) tt)) (last + 1 - first) first
-
-asks-permitted : (want a n : ℕ) → OnMemory (permitted want a n)
-unfolding permitted
-asks-permitted want a n = asks-onwards InMemory (λ k. k) (permits _ _ want) (pageIndices a n .number) (asks-permits _ _ want)
-
-asks-wxorx : (a : ℕ) (bytes : List ℕ) → OnMemory (wxorx.storeBytes a bytes)
-unfolding wxorx.storeBytes
-asks-wxorx a bytes =
-    memory-fitting (λ n. n) _
-    (asks-cond InMemory (eqb (length bytes) 0) (ret 0) _ tt
-    (memory-then (permitted writable a (length bytes)) (store a bytes) (asks-permitted writable a (length bytes)) (asks-store a bytes)))
-
-asks-fill : (a size lead : ℕ) (source : List ℕ) → OnMemory (fill a size lead source)
-unfolding fill fillRest
-asks-fill a size lead source =
-    memory-then (store _ _) _ (asks-store _ _) (memory-then (store _ _) (store _ _) (asks-store _ _) (asks-store _ _))
-
-asks-fillPageData : (a size lead : ℕ) (source : List ℕ) → OnMemory (fillPageData a size lead source)
-unfolding fillPageData
-asks-fillPageData a size lead source = memory-fitting (λ n. n) (fill a size lead source) (asks-fill a size lead source)
-
-asks-initFlag : (flags p : ℕ) → flags < flagValues → OnMemory (initFlag flags p)
-unfolding initFlag
-asks-initFlag flags p h = (
-  tt,
-  λ f.
-      asks-onwards InMemory (λ n. n) _ (f .number)
-      (asks-cond {Reply = memory-op.Reply} InMemory (eqb (bitAnd (f .value) frozen) 0) (perform (memory-op.or! p flags)) (ret 5) (h, λ r. tt) tt),
-)
-
-asks-initPages : (a size flags lead : ℕ) (source : List ℕ) → flags < flagValues → OnMemory (initPages a size flags lead source)
-unfolding initPages
-asks-initPages a size flags lead source h =
-    memory-fitting (λ n. n) _ (
-      tt,
-      λ m.
-          asks-onwards InMemory (λ n. n) _ (inBounds m a size lead)
-          (memory-then (each (initFlag flags) (size / pageSize) (a / pageSize)) (fill a size lead source)
-          (asks-each InMemory (initFlag flags) (λ p. asks-initFlag flags p h) (size / pageSize) (a / pageSize))
-          (asks-fill a size lead source)),
-    )
-
-asks-meets : (a n : ℕ) → OnMemory (meets a n)
-unfolding meets
-asks-meets a n = asks-each InMemory (λ p. perform (memory-op.meet? p)) (λ p. (tt, λ r. tt)) _ _
-
-asks-load : (n a : ℕ) → OnMemory (load n a)
-unfolding load
-asks-load n a = asks-after InMemory _ (meets a n) _ (asks-meets a n) (tt, λ l. tt)
-
-asks-loadWide : (n a : ℕ) → OnMemory (loadWide n a)
-unfolding loadWide
-asks-loadWide n a = memory-fitting _ (load n a) (asks-load n a)
-
-asks-executeLoad : (n a : ℕ) → OnMemory (executeLoad n a)
-unfolding executeLoad
-asks-executeLoad n a =
-    memory-fitting _ _ (asks-after InMemory _ (permitted executable a n) (load n a) (asks-permitted executable a n) (asks-load n a))
-
-asks-loadBytes : (a n room : ℕ) → OnMemory (loadBytes a n room)
-unfolding loadBytes reach
-asks-loadBytes a n room =
-    memory-fitting noOutput _
-    (asks-cond InMemory (eqb n 0) (ret (noOutput 0)) _ tt
-    (asks-after InMemory noOutput (reach a n room) _
-    (tt, λ m. asks-cond InMemory (ltb m (a + n)) (ret 2) _ tt (memory-then (meets a n) (ret _) (asks-meets a n) tt))
-    (tt, λ l. tt)))
-
-asks-nextByte : (a : ℕ) (seen : List ℕ) (more : ℕ → memory-op.Call sparse.Output) → ((b : ℕ) → OnMemory (more b))
-    → OnMemory (nextByte a seen more)
-unfolding nextByte
-asks-nextByte a seen more h =
-    (tt, λ n. asks-onwards InMemory (λ k. sparse.output k 0 seen) _ n (tt, λ b. asks-cond InMemory (eqb b 0) (ret _) (more b) tt (h b)))
-
-asks-cString : (room a : ℕ) (seen : List ℕ) → OnMemory (cString room a seen)
-unfolding cString
-asks-cString zero a seen = asks-nextByte a seen _ (λ b. tt)
-asks-cString (suc room) a seen = asks-nextByte a seen _ (λ b. asks-cString room (a + 1) _)
-
-asks-setFlag : (p f : ℕ) → f < flagValues → OnMemory (setFlag p f)
-unfolding setFlag
-asks-setFlag p f h = memory-fitting (λ n. n) (perform (memory-op.or! p f)) (h, λ r. tt)
-
-asks-memory : (c : memory.Named) → TypedMemory c → OnMemory (memory.program c)
-unfolding fetchFlag checkPermission setDirty marks memorySize memoryPages lr setLr loadCString sparse.storeByte sparse.storeWide wxorx.storeByte wxorx.storeWide
-asks-memory (memory.init-pages memory.on-sparse a size flags lead source) k = asks-fillPageData a size lead source
-asks-memory (memory.init-pages memory.on-wxorx a size flags lead source) k = asks-initPages a size flags lead source k
-asks-memory (memory.fill-page-data a size lead source) k = asks-fillPageData a size lead source
-asks-memory (memory.fetch-flag p) k = memory-fitting _ (perform (memory-op.flag? p)) (tt, λ r. tt)
-asks-memory (memory.set-flag p f) k = asks-setFlag p f k
-asks-memory (memory.check-permission first last want) k = memory-fitting (λ n. n) (permits first last want) (asks-permits first last want)
-asks-memory (memory.set-dirty first last) k =
-    memory-fitting (λ n. n) (marks first last)
-    (asks-each InMemory (λ p. perform (memory-op.or! p dirty)) (λ p. (omega arith, λ r. tt)) (last + 1 - first) first)
-asks-memory memory.memory-size k = (tt, λ r. tt)
-asks-memory memory.memory-pages k = (tt, λ r. tt)
-asks-memory (memory.store-byte memory.on-sparse a n v) k = asks-sparse a (filled n v)
-asks-memory (memory.store-byte memory.on-wxorx a n v) k = asks-wxorx a (filled n v)
-asks-memory (memory.store-bytes memory.on-sparse a bytes) k = asks-sparse a bytes
-asks-memory (memory.store-bytes memory.on-wxorx a bytes) k = asks-wxorx a bytes
-asks-memory (memory.store-wide memory.on-sparse n a x) k = asks-sparse a (toLe n x)
-asks-memory (memory.store-wide memory.on-wxorx n a x) k = asks-wxorx a (toLe n x)
-asks-memory (memory.load-bytes a n out) k = asks-loadBytes a n (length out)
-asks-memory (memory.load-wide n a) k = asks-loadWide n a
-asks-memory (memory.execute-load memory.on-sparse n a) k = asks-loadWide n a
-asks-memory (memory.execute-load memory.on-wxorx n a) k = asks-executeLoad n a
-asks-memory (memory.load-c-string a out) k = memory-fitting noOutput (cString (length out) a []) (asks-cString (length out) a [])
-asks-memory memory.get-lr k = (tt, λ r. tt)
-asks-memory (memory.set-lr x) k = (k, λ r. tt)
-
--- ---- what the calls on a memory with records ask
-
-abbrev OnStorage : {A : Type 0} → Call A → Type 0
-OnStorage g = Asks InAny g
-
-storage-memory : {A : Type 0} (g : memory-op.Call A) → OnMemory g → OnStorage (onMemory g)
-storage-memory g a = asks-lift {R = memory-op.Reply} Reply InAny g a
-
-storage-fitting : {A : Type 0} (refused : ℕ → A) (g : Call A) → OnStorage g → OnStorage (fitting refused g)
-unfolding fitting
-storage-fitting refused g a = (tt, λ b. asks-cond InAny b g (ret (refused 9)) a tt)
-
-storage-then : (g k : Call ℕ) → OnStorage g → OnStorage k → OnStorage (after (λ n. n) g k)
-storage-then g k a b = asks-after InAny (λ n. n) g k a b
-
-asks-trackPages : (start size id offset : ℕ) → Word id → OnStorage (trackPages start size id offset)
-unfolding trackPages track trackWhole
-asks-trackPages start size id offset k =
-    storage-fitting (λ n. n) _
-    (asks-cond InAny (ltb size (distance start)) (ret 0) _ tt
-    (asks-cond InAny (ltb (2 ^ 64 - pageSize) start) (ret 2) _ tt
-    (asks-cond InAny (ltb top (offset + distance start)) (ret 2) _ tt
-    (asks-each InAny (trackFrom _ id (offset + distance start)) (λ p. (k, λ r. tt)) _ _))))
-
-asks-untrackPages : (start size : ℕ) → OnStorage (untrackPages start size)
-unfolding untrackPages untrack dropWhole
-asks-untrackPages start size =
-    storage-fitting (λ n. n) _
-    (asks-cond InAny (eqb size 0) (ret 0) _ tt
-    (asks-onwards InAny (λ n. n) _ (pageIndices start size .number)
-    (asks-each InAny (λ p. perform (own (drop! p))) (λ p. (tt, λ r. tt)) _ _)))
-
-asks-storeBytes : (directory sources : List ℕ) (a id offset wanted sizeAt : ℕ) → Word id
-    → OnStorage (storeBytes directory sources a id offset wanted sizeAt)
-unfolding storeBytes storeFound storeData replace storeTracked wxorx.storeWide
-asks-storeBytes directory sources a id offset wanted sizeAt k =
-    let d = findData directory (length sources) id offset wanted in
-    let bytes : List ℕ = dataOf sources d in
-    storage-fitting notStored _
-    (asks-onwards InAny notStored _ (d .number)
-    (asks-after InAny notStored (storeData sizeAt (d .full) a id offset bytes) (ret _)
-    (storage-then (onMemory (wxorx.storeBytes sizeAt (toLe 8 (d .full)))) (replace a id offset bytes)
-    (storage-memory (wxorx.storeBytes sizeAt (toLe 8 (d .full))) (asks-wxorx sizeAt (toLe 8 (d .full))))
-    (storage-then (untrackPages a (length bytes)) (storeTracked a id offset bytes) (asks-untrackPages a (length bytes))
-    (storage-then (onMemory (wxorx.storeBytes a bytes)) (trackPages a (length bytes) id offset)
-    (storage-memory (wxorx.storeBytes a bytes) (asks-wxorx a bytes))
-    (asks-trackPages a (length bytes) id offset k))))
-    tt))
-
-asks-markProgram : (actions : List ℕ) (id offset : ℕ) → Word id → OnStorage (markProgram actions id offset)
-unfolding markProgram markActions markAction
-asks-markProgram actions id offset k =
-    storage-fitting (λ n. n) _
-    (asks-each InAny (λ i. markAction id offset (actionAt actions i))
-    (λ i.
-    let action : LoadingAction = actionAt actions i in
-    asks-cond InAny (ltb top (action .addr + action .lead)) (ret 2) _ tt
-    (asks-cond InAny (ltb (action .end) (action .start)) (ret 2) _ tt
-    (asks-cond InAny (ltb (action .size) (action .lead)) (ret 2) _ tt
-    (asks-cond InAny (ltb top (offset + action .start)) (ret 2) _ tt (asks-trackPages _ _ id _ k))))) _ 0)
-
-asks-pageRecord : (p : ℕ) → OnStorage (pageRecord p)
-unfolding pageRecord
-asks-pageRecord p = storage-fitting notRecorded _ (tt, λ f. asks-onwards InAny notRecorded _ (f .number) (tt, λ t. tt))
-
--- ---- a snapshot asks, and changes nothing
-
-asks-takePages : OnStorage takePages
-unfolding takePages takeRuns meetRun readRun askFlag askEntry
-asks-takePages =
-    storage-fitting notTaken _ (
-      tt,
-      λ n.
-          asks-bind InAny (collect askFlag (n / pageSize) 0) _ (asks-collect InAny askFlag (λ p. (tt, λ f. tt)) (n / pageSize) 0)
-          (λ flags.
-          asks-bind InAny (collect askEntry (n / pageSize) 0) _ (asks-collect InAny askEntry (λ p. (tt, λ t. tt)) (n / pageSize) 0)
-          (λ entries.
-          asks-after InAny notTaken (eachIn meetRun (dirtyRuns 0 flags)) _
-          (asks-in InAny meetRun (dirtyRuns 0 flags)
-          (each-of _ (λ r. asks-each InAny (λ p. perform (low (memory-op.meet? p))) (λ p. (tt, λ r. tt)) (r .pages) (r .page)) (dirtyRuns 0 flags)))
-          (asks-bind InAny (collectIn readRun (dirtyRuns 0 flags)) _ (asks-collectIn InAny readRun (λ r. (tt, λ l. tt)) (dirtyRuns 0 flags))
-          (λ l. tt)))),
-    )
-
-abbrev OnMachine : {A : Type 0} → MachineCall A → Type 0
-OnMachine g = Asks InMachine g
-
-machine-storage : {A : Type 0} (g : Call A) → OnStorage g → OnMachine (lift g)
-machine-storage g a = asks-lift {R = AnyReply} machine.Reply InMachine g a
-
-asks-makeSnapshot : (file pages : ℕ) → OnMachine (makeSnapshot file pages)
-unfolding makeSnapshot askKept
-asks-makeSnapshot file pages =
-    asks-bind InMachine (lift takePages) _ (machine-storage takePages asks-takePages)
-    (λ t.
-    asks-onwards InMachine notMade _ (t .number)
-    (asks-bind InMachine askKept _ (tt, λ v. (tt, λ p. (tt, λ c. (tt, λ x. (tt, λ r. tt))))) (λ k. (tt, λ l. tt))))
+asks-memory : (c : memory.Named) → TypedMemory c → OnMemory InMemory (memory.program c)
+asks-memory c k = go c (kind in-memory (λ p. omega arith) c (λ x e. subst TypedMemory e k)) k
+  where
+    go : (c : memory.Named) → Kind InMemory c → TypedMemory c → OnMemory InMemory (memory.program c)
+    go c (asks a) k = a
+    go c (sets p f) k = asks-setFlag in-memory p f k
+    go c (inits a size flags lead source) k = asks-initPages in-memory a size flags lead source (λ p. k)
 
 -- ---- a resume asks what its snapshot says, which is in range
 
-asks-storeRun : (a flag : ℕ) (bytes : List ℕ) → flag < flagValues → OnMemory (storeRun a flag bytes)
+asks-storeRun : (a flag : ℕ) (bytes : List ℕ) → flag < flagValues → OnMemory InMemory (storeRun a flag bytes)
 unfolding storeRun setFlags
 asks-storeRun a flag bytes h =
-    memory-then (wxorx.storeBytes a bytes) _ (asks-wxorx a bytes) (asks-each InMemory (λ p. setFlag p flag) (λ p. asks-setFlag p flag h) _ _)
+    asks-after InMemory (λ n. n) _ _ (asks-wxorx in-memory a bytes)
+    (asks-each InMemory (λ p. setFlag p flag) (λ p. asks-setFlag in-memory p flag h) _ _)
 
-asks-restoreSource : (directory sources : List ℕ) (r : SourceRun) → SourceRanged r → OnStorage (restoreSource directory sources r)
+asks-restoreSource : (directory sources : List ℕ) (r : SourceRun) → SourceRanged r → OnTracked InAny (restoreSource directory sources r)
 unfolding restoreSource restoreData storeSource
 asks-restoreSource directory sources r w =
     let d = found directory sources r in
@@ -572,32 +304,29 @@ asks-restoreSource directory sources r w =
     asks-cond InAny (eqb (r .address % pageSize) 0) _ (ret 3)
     (asks-onwards InAny (λ n. n) _ (d .number)
     (asks-cond InAny (eqb (length bytes % pageSize) 0) _ (ret 3)
-    (storage-then (onMemory (storeRun (r .address) (r .flag) bytes)) (trackPages (r .address) (length bytes) (r .id) (r .offset))
-    (storage-memory (storeRun (r .address) (r .flag) bytes) (asks-storeRun (r .address) (r .flag) bytes (w .flag-small)))
-    (asks-trackPages (r .address) (length bytes) (r .id) (r .offset) (w .id-word)))
+    (asks-after InAny (λ n. n) _ _ (asks-onMemory InAny _ (asks-storeRun (r .address) (r .flag) bytes (w .flag-small)))
+    (asks-trackPages in-storage (r .id) (λ p offset. w .id-word) (r .address) (length bytes) (r .offset)))
     tt))
     tt
 
-asks-restoreDirty : (r : DirtyRun) → DirtyRanged r → OnStorage (onMemory (restoreDirty r))
+asks-restoreDirty : (r : DirtyRun) → DirtyRanged r → OnTracked InAny (onMemory (restoreDirty r))
 unfolding restoreDirty
 asks-restoreDirty r w =
-    storage-memory (restoreDirty r)
-    (asks-cond InMemory (eqb (r .address % pageSize) 0) (storeRun (r .address) (r .flag) (r .content)) (ret 3)
-    (asks-storeRun (r .address) (r .flag) (r .content) (w .flag-small))
-    tt)
+    asks-onMemory InAny (restoreDirty r)
+    (asks-cond InMemory (eqb (r .address % pageSize) 0) _ (ret 3) (asks-storeRun (r .address) (r .flag) (r .content) (w .flag-small)) tt)
 
-asks-restorePages : (directory sources : List ℕ) (s : Snapshot) → Ranged s → OnStorage (restorePages directory sources s)
+asks-restorePages : (directory sources : List ℕ) (s : Snapshot) → Ranged s → OnTracked InAny (restorePages directory sources s)
 unfolding restorePages restoreRuns setLr
 asks-restorePages directory sources s w =
-    storage-then (restoreRuns directory sources (s .sources) (s .dirty)) (onMemory (setLr (s .state .reservation)))
-    (storage-then (eachIn (restoreSource directory sources) (s .sources)) (eachIn (λ r. onMemory (restoreDirty r)) (s .dirty))
+    asks-after InAny (λ n. n) _ _
+    (asks-after InAny (λ n. n) _ _
     (asks-in InAny (restoreSource directory sources) (s .sources)
     (each-map SourceRanged _ (asks-restoreSource directory sources) (s .sources) (w .sources-ranged)))
     (asks-in InAny (λ r. onMemory (restoreDirty r)) (s .dirty)
     (each-map DirtyRanged _ asks-restoreDirty (s .dirty) (w .dirty-ranged))))
-    (storage-memory (perform (memory-op.lr! (s .state .reservation))) (w .reservation-word, λ r. tt))
+    (asks-onMemory InAny (perform (memory-op.lr! (s .state .reservation))) (w .reservation-word, λ r. tt))
 
-asks-restore : (directory sources : List ℕ) (s : Snapshot) → Ranged s → OnMachine (restore directory sources s)
+asks-restore : (directory sources : List ℕ) (s : Snapshot) → Ranged s → OnMachine InMachine (restore directory sources s)
 unfolding restore restoreNumbers
 asks-restore directory sources s w = (
   tt,
@@ -611,7 +340,7 @@ asks-restore directory sources s w = (
           w .cycles-word,
           λ e. (
             w .maximum-word,
-            λ f. machine-storage (restorePages directory sources s) (asks-restorePages directory sources s w),
+            λ f. asks-onMachine InMachine (restorePages directory sources s) (asks-restorePages directory sources s w),
           ),
         ),
       ),
@@ -620,13 +349,13 @@ asks-restore directory sources s w = (
 )
 
 asks-resume : (directory sources file pageFile : List ℕ) → Small file → Word (length pageFile)
-    → OnMachine (snapshot.resume directory sources file pageFile)
+    → OnMachine InMachine (snapshot.resume directory sources file pageFile)
 unfolding snapshot.resume resumeFrom
 asks-resume directory sources file pageFile small word = (
   tt,
   λ b.
       asks-cond InMachine b _ (ret 9)
-      (cases OnMachine (eqb (inForm file (length pageFile)) 0) _ _
+      (cases (OnMachine InMachine) (eqb (inForm file (length pageFile)) 0) _ _
       (λ t. (
         tt,
         λ v.
@@ -640,21 +369,22 @@ asks-resume directory sources file pageFile small word = (
 
 -- ---- every call
 
-asks-named : (c : Named) → TypedNamed c → OnMachine (program c)
+asks-named : (c : Named) → TypedNamed c → OnMachine InMachine (program c)
 asks-named (round-page-up a) k = tt
 asks-named (round-page-down a) k = tt
 asks-named (get-page-indices a n) k = tt
-asks-named (on-memory c) k = machine-storage (onMemory (memory.program c)) (storage-memory (memory.program c) (asks-memory c k))
+asks-named (on-memory c) k = asks-onMachine InMachine _ (asks-onMemory InAny (memory.program c) (asks-memory c k))
 asks-named (on-numbers o) k = (k, λ r. tt)
 asks-named (load-data directory sources id offset wanted) k = tt
-asks-named (track-pages start size id offset) k = machine-storage (trackPages start size id offset) (asks-trackPages start size id offset k)
-asks-named (untrack-pages start size) k = machine-storage (untrackPages start size) (asks-untrackPages start size)
+asks-named (track-pages start size id offset) k =
+    asks-onMachine InMachine _ (asks-trackPages in-storage id (λ p o. k) start size offset)
+asks-named (untrack-pages start size) k = asks-onMachine InMachine _ (asks-untrackPages in-storage start size)
 asks-named (store-bytes directory sources a id offset wanted sizeAt) k =
-    machine-storage (storeBytes directory sources a id offset wanted sizeAt)
-    (asks-storeBytes directory sources a id offset wanted sizeAt k)
-asks-named (mark-program actions id offset) k = machine-storage (markProgram actions id offset) (asks-markProgram actions id offset k)
-asks-named (page-record p) k = machine-storage (pageRecord p) (asks-pageRecord p)
-asks-named (make-snapshot file pages) k = asks-makeSnapshot (length file) (length pages)
+    asks-onMachine InMachine _ (asks-storeBytes in-storage id (λ p o. k) directory sources a offset wanted sizeAt)
+asks-named (mark-program actions id offset) k =
+    asks-onMachine InMachine _ (asks-markProgram in-storage id (λ p o. k) actions offset)
+asks-named (page-record p) k = asks-onMachine InMachine _ (asks-pageRecord in-storage p)
+asks-named (make-snapshot file pages) k = asks-makeSnapshot in-machine (length file) (length pages)
 asks-named (resume directory sources file pageFile) k = asks-resume directory sources file pageFile (k .0) (k .1)
 
 -- a flag cleared is at most what it was
@@ -711,15 +441,8 @@ fresh-in slots flags area records size version maximum done small word =
             records = zeros-in (length records);
           };
       numbers =
-          record {
-            version-small = small;
-            pc-word = omega arith;
-            next-pc-word = omega arith;
-            cycles-word = omega arith;
-            maximum-word = word;
-            registers-are = length-filled generalRegisters 0;
-            register-words = λ i. omega (arith, filled-zero generalRegisters i);
-          };
+          numbers-in _ small (omega arith) (omega arith) (omega arith) word (length-filled generalRegisters 0)
+          (λ i. omega (arith, filled-zero generalRegisters i));
     })
 
 -- ---- EVERY MACHINE THAT OUR CALLS REACH

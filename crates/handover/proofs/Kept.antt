@@ -1,8 +1,9 @@
 -- Which calls keep a machine sound: the table of specs/Keeping.antt, over all calls; and a fresh machine is sound.
 use mathlib.Core.Path.{_≡_, refl, sym, ap, _∙_, subst⁻¹}
-use mathlib.Core.List.{List}
+use mathlib.Core.List.{List, [], _∷_}
 use mathlib.Core.Logic.{inl, inr}
 use Prim.Native.Nat.{ℕ, _*_, _/_, _%_, _<_}
+use native.Mathlib.Omega.{arith}
 use lib.ListN.{length, getD}
 use lib.Dec.{eqb, ltb}
 use lib.Bits.{bitOr}
@@ -28,7 +29,7 @@ use Rattle.machine.specs.Fresh.{Tracked, LentMachine, fresh}
 use Rattle.machine.specs.Operations as machine
 use Rattle.recordfile.specs.Form.{inForm}
 use Rattle.recordfile.specs.Records.{versions}
-use Rattle.recordfile.specs.Snapshots.{Word, snapshotIn}
+use Rattle.recordfile.specs.Snapshots.{Word, Each, snapshotIn}
 use Rattle.tracking.specs.declared.records.Tracking.the-variants.{Untracked}
 use Rattle.tracking.specs.Records.{recordAt}
 use Rattle.tracking.specs.Operations.{Call, MachineCall, machineDoes, onMemory, masked}
@@ -37,10 +38,11 @@ use Rattle.snapshot.specs.MakeSnapshot.{makeSnapshot}
 use Rattle.snapshot.specs.Resume.{restorePages, restoreNumbers, restore, resumeFrom}
 use Rattle.snapshot.specs.Resume as snapshot
 use Rattle.handover.specs.View.{View, view, doesV, MachineView, viewMachine, Whole, WholeMachine, machineDoesV}
-use Rattle.handover.specs.Calls.{Named, round-page-up, round-page-down, get-page-indices, on-memory, on-numbers, load-data, track-pages, untrack-pages, store-bytes, mark-program, page-record, make-snapshot, resume, program, Given, named, clear-flag, make-fresh, clearFlag, Later, answer}
+use Rattle.handover.specs.Calls.{Named, round-page-up, round-page-down, get-page-indices, on-memory, on-numbers, load-data, track-pages, untrack-pages, store-bytes, mark-program, page-record, make-snapshot, resume, program, Given, named, clear-flag, make-fresh, clearFlag, Later, answer, leaves}
 use Rattle.handover.specs.Reached.{Typed}
 use Rattle.handover.specs.Sound.{SoundPage, SoundPages, is-dirty, is-blank, Sound}
-use Rattle.handover.specs.Keeping.{NothingLost, KeepsMemory, KeepsNamed, Keeps}
+use Rattle.handover.specs.Keeping.{NothingLost, KeepsMemory, KeepsNamed, Keeps, Usual}
+use Rattle.handover.proofs.WellFormed.{given-lengths}
 use Rattle.handover.proofs.Seen.{mask-twice, machine-seen, blank, fresh-seen}
 use Rattle.handover.proofs.Gentle.{Good, page-same, page-bytes, Step, stepped-good, flag-step, on-page-step, Kind, asks, sets, inits, kind, op-good, GentleTracked, gentle-kept, gentle-onMemory, gentle-untrackPages, gentle-pageRecord, gentle-machine-kept, gentle-makeSnapshot}
 use Rattle.handover.proofs.Reaching.{reached-whole, reached-fresh, reached-then}
@@ -202,3 +204,14 @@ module _ (directory sources : List ℕ) where
       after (named c) l k = named-pages m whole good c k
       after (clear-flag p f) l k = clear-pages directory sources (m .0) p f whole k (s .pages)
       after (make-fresh size version maximum) l k = absurd l
+
+-- calls in turn, from any sound machine: from a fresh one, what a host may do without a thought
+pub usual-sound : (directory sources : List ℕ) (gs : List Given) → Each (Usual directory sources) gs → (m : LentMachine) → Roomy (m .0 .0)
+    → Sound directory sources m → Sound directory sources (leaves gs m)
+unfolding leaves Each
+usual-sound directory sources [] usual m room s = s
+usual-sound directory sources (g ∷ gs) usual m room s =
+    let u = usual .0 in
+    let e = given-lengths g (u .0) m in
+    usual-sound directory sources gs (usual .1) _ (omega (arith, room, e .memory .size, e .memory .area))
+    (sound-kept directory sources m g (u .0) (u .1) (u .2 m) room s)

@@ -9,6 +9,7 @@ pub mod Told
 pub mod Table
 -- programs that ask operations of one kind, and what stores and tracking come to on the view:
 pub mod Asks
+pub mod CallsAsk
 pub mod Effects
 pub mod Storing
 pub mod Filling
@@ -29,6 +30,7 @@ pub mod KeptStores
 pub mod KeptSources
 pub mod KeptInit
 pub mod Kept
+pub mod NotKept
 -- the handover theorem:
 pub mod Agreeing
 pub mod Theorem

@@ -263,6 +263,16 @@ wx-stored v a bytes whole small fits free =
 
 -- ---- flags set on pages in turn
 
+-- a page that is neither a first one nor one of the n others after it
+module _ (first n q : ℕ) where
+  pub off-others : (q < first) ⊎ (first + suc n ≤ q) → (q < first + 1) ⊎ (first + 1 + n ≤ q)
+  off-others (inl h) = inl (omega arith)
+  off-others (inr h) = inr (omega arith)
+
+  pub off-first : (q < first) ⊎ (first + suc n ≤ q) → q ≢ first
+  off-first (inl h) = omega arith
+  off-first (inr h) = omega arith
+
 -- on no page, and on one more before the others
 ored-none : (v : memory.View) (first f : ℕ) → Ored v first 0 f (0, v)
 ored-none v first f =
@@ -287,16 +297,8 @@ ored-more v first n f r u =
         | yes e ↦ u .flag-out q (inl (omega arith)) ∙ at-one-same (v .flag) first _ q e ∙ ap (λ (p : ℕ). bitOr (v .flag p) f) (sym e)
         | no e ↦ u .flag-in q (omega arith) (omega arith) ∙ ap (λ (x : ℕ). bitOr x f) (at-one-other (v .flag) first _ q e)
       ];
-      flag-out = λ q h. u .flag-out q (around q h) ∙ at-one-other (v .flag) first _ q (other q h);
+      flag-out = λ q h. u .flag-out q (off-others first n q h) ∙ at-one-other (v .flag) first _ q (off-first first n q h);
     }
-  where
-    around : (q : ℕ) → (q < first) ⊎ (first + suc n ≤ q) → (q < first + 1) ⊎ (first + 1 + n ≤ q)
-    around q (inl h) = inl (omega arith)
-    around q (inr h) = inr (omega arith)
-
-    other : (q : ℕ) → (q < first) ⊎ (first + suc n ≤ q) → q ≢ first
-    other q (inl h) = omega arith
-    other q (inr h) = omega arith
 
 -- a page that is there
 flag-set : (v : memory.View) (p f : ℕ) → p < v .size / pageSize

@@ -181,6 +181,7 @@ module _ (directory sources : List ℕ) (m : LentMachine) (stopped : Stopped dir
       ≡ (0, viewMachine m)
   unfolding run snapshot.restore snapshot.restoreNumbers
   machine-restored numbers v =
+      let settles : m .1 .pc ≡ m .1 .next-pc = sym (stopped .settled) in
       lift-run doesV (beside machine.does) (snapshot.restorePages directory sources (snapshotOf m)) (blank (m .0 .0 .memory .size)) _
       ∙ (λ i. (
         pages-restored i .0,
@@ -189,7 +190,7 @@ module _ (directory sources : List ℕ) (m : LentMachine) (stopped : Stopped dir
           record {
             registers = m .1 .registers;
             pc = m .1 .pc;
-            next-pc = sym (stopped .settled) i;
+            next-pc = settles i;
             version = v i;
             cycles = m .1 .cycles;
             max-cycles = m .1 .max-cycles;

@@ -25,7 +25,7 @@ use Rattle.snapshot.specs.Resume.{setFlags, storeRun}
 use Rattle.handover.specs.View.{View, remasked, entry-at, cleanV, trackedV, doesV}
 use Rattle.handover.proofs.Seen.{mask-dirty, mask-twice}
 use Rattle.handover.proofs.Effects.{Masked, Touched, Apart, Stored, Ored, Tracks}
-use Rattle.handover.proofs.Storing.{done-then, goes-on, at-one-same, at-one-other, wx-stored, flags-ored}
+use Rattle.handover.proofs.Storing.{done-then, goes-on, at-one-same, at-one-other, wx-stored, off-others, off-first, flags-ored}
 
 -- ---- a call on the memory
 
@@ -84,14 +84,6 @@ tracks-none v first id offset =
 -- one more before the others
 module _ (v : View) (first n id offset : ℕ) (r : ℕ × View)
     (u : Tracks (trackedV v first id offset) (first + 1) n id (offset + pageSize) r) where
-  around : (q : ℕ) → (q < first) ⊎ (first + suc n ≤ q) → (q < first + 1) ⊎ (first + 1 + n ≤ q)
-  around q (inl h) = inl (omega arith)
-  around q (inr h) = inr (omega arith)
-
-  other : (q : ℕ) → (q < first) ⊎ (first + suc n ≤ q) → q ≢ first
-  other q (inl h) = omega arith
-  other q (inr h) = omega arith
-
   tracks-more : Tracks v first (suc n) id offset r
   tracks-more =
       record {
@@ -105,7 +97,7 @@ module _ (v : View) (first n id offset : ℕ) (r : ℕ × View)
               u .flag-in q (omega arith) (omega arith)
               ∙ ap (λ (x : ℕ). cleared x dirty) (at-one-other (v .memory .flag) first _ q e)
         ];
-        flag-out = λ q h. u .flag-out q (around q h) ∙ at-one-other (v .memory .flag) first _ q (other q h);
+        flag-out = λ q h. u .flag-out q (off-others first n q h) ∙ at-one-other (v .memory .flag) first _ q (off-first first n q h);
         entry-in = λ q h k. elim (ℕ-discrete q first) [
           | yes e ↦
               let z : offset ≡ offset + (q - first) * pageSize = omega arith in
@@ -116,7 +108,7 @@ module _ (v : View) (first n id offset : ℕ) (r : ℕ × View)
               u .entry-in q (omega arith) (omega arith)
               ∙ (λ i. Tracked id (z i) (cleared (at-one-other (v .memory .flag) first (cleanV v first) q e i) dirty))
         ];
-        entry-out = λ q h. u .entry-out q (around q h) ∙ entry-at-other (v .entry) first _ q (other q h);
+        entry-out = λ q h. u .entry-out q (off-others first n q h) ∙ entry-at-other (v .entry) first _ q (off-first first n q h);
       }
 
 -- a page that is there

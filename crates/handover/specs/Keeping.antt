@@ -15,7 +15,8 @@ use Rattle.machine.specs.Fresh.{LentMachine}
 use Rattle.tracking.specs.declared.records.Tracking.the-variants.{Untracked}
 use Rattle.tracking.specs.Tracking.{actionWords, actionAt}
 use Rattle.handover.specs.View.{View, view}
-use Rattle.handover.specs.Calls.{Named, round-page-up, round-page-down, get-page-indices, on-memory, on-numbers, load-data, track-pages, untrack-pages, store-bytes, mark-program, page-record, make-snapshot, resume, Given, named, clear-flag, make-fresh}
+use Rattle.handover.specs.Calls.{Named, round-page-up, round-page-down, get-page-indices, on-memory, on-numbers, load-data, track-pages, untrack-pages, store-bytes, mark-program, page-record, make-snapshot, resume, Given, named, clear-flag, make-fresh, Later}
+use Rattle.handover.specs.Reached.{Typed}
 use Rattle.handover.specs.Sound.{pageIn, sourceGives}
 
 -- a flag that is changed directly: the page is dirty then, or the flag is as it was
@@ -78,3 +79,7 @@ module _ (directory sources : List ℕ) (m : LentMachine) where
   Keeps (named c) = KeepsNamed c
   Keeps (clear-flag p f) = NothingLost (view (m .0) .memory .flag p) (cleared (view (m .0) .memory .flag p) f)
   Keeps (make-fresh size version maximum) = Unit {0}
+
+-- a call that keeps every machine sound: what a host may do without a thought
+abbrev pub Usual : List ℕ → List ℕ → Given → Type 0
+Usual directory sources g = Later g × Typed g × ((m : LentMachine) → Keeps directory sources m g)

@@ -36,7 +36,7 @@ use Rattle.handover.specs.View.{View, view, doesV, MachineView, viewMach
 use Rattle.handover.specs.Calls.{Given, named, resume}
 use Rattle.handover.specs.Reached.{Reached}
 use Rattle.handover.specs.Sound.{SoundPages}
-use Rattle.handover.specs.Hosts.{Stopped, FreshHost, LongEnough, snapshotOf, snapped, recordFile, pageFile, resumed, Agree}
+use Rattle.handover.specs.Hosts.{Stopped, FreshHost, LongEnough, machineSnapshot, snapped, recordFile, pageFile, resumed, Agree}
 use Rattle.handover.specs.Theorem.{HandedOver, ReadsBack, Theorem}
 use Rattle.handover.proofs.WellFormed.{lengths-reply, machine-lengths, fresh-done}
 use Rattle.handover.proofs.Seen.{blank, fresh-seen, machine-seen}
@@ -73,7 +73,7 @@ module _ (m : LentMachine) (r : Reached m) where
   abbrev typed : InTypes m
   typed = reached-in-types m r
 
-  ranged : Ranged (snapshotOf m)
+  ranged : Ranged (machineSnapshot m)
   ranged = ranged-now (m .0 .0 .slots) (m .0 .0 .flags) (m .0 .0 .area) (m .0 .1) _ (formed .memory .fit) (typed .typed)
 
   dirty-within : Fits (length (m .0 .0 .flags)) (length (m .0 .0 .flags)) (dirtyFrom (m .0 .0 .flags) 0)
@@ -92,14 +92,14 @@ module _ (m : LentMachine) (r : Reached m) where
   always-enough file pages f p =
       let fit = formed .memory .fit in
       let x : Machine = machineOf (m .1) (m .0 .0 .memory) in
-      let a : length (fileOf (snapshotOf m)) ≤ length file =
+      let a : length (fileOf (machineSnapshot m)) ≤ length file =
       omega (
         arith,
         length-file (m .0 .0 .slots) (m .0 .0 .flags) (m .0 .0 .area) (m .0 .1) x,
         runs-bound (m .0 .0 .flags) (m .0 .1),
         fit .flags-are,
       ) in
-      let b : length (pageFileOf (snapshotOf m)) ≤ length pages =
+      let b : length (pageFileOf (machineSnapshot m)) ≤ length pages =
       omega (
         arith,
         length-pages (m .0 .0 .slots) (m .0 .0 .flags) (m .0 .0 .area) (m .0 .1) x,
@@ -111,13 +111,13 @@ module _ (m : LentMachine) (r : Reached m) where
 
   module _ (file pages : List ℕ) where
     -- the snapshot is laid out, and the machine was only read
-    snapped-is : snapped m file pages ≡ (laidOut (length file) (length pages) (snapshotOf m), m)
+    snapped-is : snapped m file pages ≡ (laidOut (length file) (length pages) (machineSnapshot m), m)
     snapped-is =
         sym
         (made-now (m .0 .0 .slots) (m .0 .0 .flags) (m .0 .0 .area) (m .0 .1) (machineOf (m .1) (m .0 .0 .memory)) true
         (sym (lengths-reply (m .0) formed)) (length file) (length pages) refl 0 true (sym all-met) refl refl)
 
-    made-is : snapped m file pages .0 ≡ laidOut (length file) (length pages) (snapshotOf m)
+    made-is : snapped m file pages .0 ≡ laidOut (length file) (length pages) (machineSnapshot m)
     made-is = ap (λ (x : Made × LentMachine). x .0) snapped-is
 
     -- what is made where the outputs hold it
@@ -125,23 +125,23 @@ module _ (m : LentMachine) (r : Reached m) where
     whole =
         record {
           number = 0;
-          records = length (recordsOf (snapshotOf m));
-          pages = length (pageFileOf (snapshotOf m)) / pageSize;
-          file = fileOf (snapshotOf m);
-          body = pageFileOf (snapshotOf m);
+          records = length (recordsOf (machineSnapshot m));
+          pages = length (pageFileOf (machineSnapshot m)) / pageSize;
+          file = fileOf (machineSnapshot m);
+          body = pageFileOf (machineSnapshot m);
         }
 
     enough-made : LongEnough m file pages → snapped m file pages .0 ≡ whole
-    enough-made e = made-is ∙ sym (out-held (length file) (length pages) (snapshotOf m) e)
+    enough-made e = made-is ∙ sym (out-held (length file) (length pages) (machineSnapshot m) e)
 
     -- it is done only where they do
     done-made : snapped m file pages .0 .number ≡ 0 → snapped m file pages .0 ≡ whole
-    done-made d = go (holds (length file) (length pages) (snapshotOf m)) refl
+    done-made d = go (holds (length file) (length pages) (machineSnapshot m)) refl
       where
-        go : (b : Bool) → holds (length file) (length pages) (snapshotOf m) ≡ b → snapped m file pages .0 ≡ whole
+        go : (b : Bool) → holds (length file) (length pages) (machineSnapshot m) ≡ b → snapped m file pages .0 ≡ whole
         go true e = enough-made e
         go false e =
-            let z : snapped m file pages .0 ≡ notMade 8 = made-is ∙ sym (out-short (length file) (length pages) (snapshotOf m) e) in
+            let z : snapped m file pages .0 ≡ notMade 8 = made-is ∙ sym (out-short (length file) (length pages) (machineSnapshot m) e) in
             let n : snapped m file pages .0 .number ≡ 8 = ap (λ (x : Made). x .number) z in
             absurd (omega (arith, d, n))
 
@@ -149,9 +149,9 @@ module _ (m : LentMachine) (r : Reached m) where
     pub read-back : snapped m file pages .0 .number ≡ 0 → ReadsBack m file pages
     read-back d =
         let fronts = fronts-are (m .0 .0 .slots) (m .0 .0 .flags) (m .0 .0 .area) (m .0 .1) (machineOf (m .1) (m .0 .0 .memory)) file pages d in
-        let a : recordFile m file pages ≡ fileOf (snapshotOf m) = fronts .0 ∙ ap (λ (x : Made). x .file) (done-made d) in
-        let b : pageFile m file pages ≡ pageFileOf (snapshotOf m) = fronts .1 ∙ ap (λ (x : Made). x .body) (done-made d) in
-        let back = files.read-back (snapshotOf m) ranged in
+        let a : recordFile m file pages ≡ fileOf (machineSnapshot m) = fronts .0 ∙ ap (λ (x : Made). x .file) (done-made d) in
+        let b : pageFile m file pages ≡ pageFileOf (machineSnapshot m) = fronts .1 ∙ ap (λ (x : Made). x .body) (done-made d) in
+        let back = files.read-back (machineSnapshot m) ranged in
         record {
           record-file = a;
           page-file = b;
@@ -165,24 +165,24 @@ module _ (directory sources : List ℕ) (m : LentMachine) (stopped : Stopped dir
   abbrev seen : View
   seen = view (m .0)
 
-  pages-restored : run doesV (snapshot.restorePages directory sources (snapshotOf m)) (blank (m .0 .0 .memory .size)) ≡ (0, seen)
+  pages-restored : run doesV (snapshot.restorePages directory sources (machineSnapshot m)) (blank (m .0 .0 .memory .size)) ≡ (0, seen)
   unfolding sourcesFrom dirtyOut dirtyFrom
   pages-restored =
       let fit = reached-formed m (stopped .sound .reached) .memory .fit in
       let e : length (m .0 .0 .flags) - 0 ≡ m .0 .0 .memory .size / pageSize = omega (arith, fit .flags-are) in
-      restored directory sources seen (view-right directory sources m (stopped .sound)) (snapshotOf m)
+      restored directory sources seen (view-right directory sources m (stopped .sound)) (machineSnapshot m)
       (ap (λ (n : ℕ). sourceRuns 0 (along (entryIn (m .0 .0 .flags) (m .0 .1)) n 0)) e)
       (ap (λ (n : ℕ). map (readSeen (seen .memory .byte)) (dirtyRuns 0 (along (flagAt (m .0 .0 .flags)) n 0))) e)
       refl
 
   -- the numbers, and beside them the pages
   machine-restored : (numbers : Numbers) → numbers .version ≡ m .1 .version
-      → run machineDoesV (snapshot.restore directory sources (snapshotOf m)) (blank (m .0 .0 .memory .size), numbers)
+      → run machineDoesV (snapshot.restore directory sources (machineSnapshot m)) (blank (m .0 .0 .memory .size), numbers)
       ≡ (0, viewMachine m)
   unfolding run snapshot.restore snapshot.restoreNumbers
   machine-restored numbers v =
       let settles : m .1 .pc ≡ m .1 .next-pc = sym (stopped .settled) in
-      lift-run doesV (beside machine.does) (snapshot.restorePages directory sources (snapshotOf m)) (blank (m .0 .0 .memory .size)) _
+      lift-run doesV (beside machine.does) (snapshot.restorePages directory sources (machineSnapshot m)) (blank (m .0 .0 .memory .size)) _
       ∙ (λ i. (
         pages-restored i .0,
         (
@@ -199,7 +199,7 @@ module _ (directory sources : List ℕ) (m : LentMachine) (stopped : Stopped dir
       ))
 
   -- two files that hold the snapshot, resumed on a blank machine of the same version
-  resumed-seen : (file pageFile : List ℕ) → inForm file (length pageFile) ≡ 0 → snapshotIn file pageFile ≡ snapshotOf m
+  resumed-seen : (file pageFile : List ℕ) → inForm file (length pageFile) ≡ 0 → snapshotIn file pageFile ≡ machineSnapshot m
       → (numbers : Numbers) → numbers .version ≡ m .1 .version
       → run machineDoesV (snapshot.resume directory sources file pageFile) (blank (m .0 .0 .memory .size), numbers) ≡ (0, viewMachine m)
   unfolding run snapshot.resume snapshot.resumeFrom
@@ -210,7 +210,7 @@ module _ (directory sources : List ℕ) (m : LentMachine) (stopped : Stopped dir
       ok
       ∙ ap {B = ℕ × MachineView} (λ (s : Snapshot). run machineDoesV (snapshot.resumeFrom directory sources s) from) same
       ∙ ap {B = ℕ × MachineView}
-      (λ (b : Bool). run machineDoesV (cond b (snapshot.restore directory sources (snapshotOf m)) (ret 1)) from)
+      (λ (b : Bool). run machineDoesV (cond b (snapshot.restore directory sources (machineSnapshot m)) (ret 1)) from)
       (eq-eqb (numbers .version) (m .1 .version) v)
       ∙ machine-restored numbers v
 
@@ -273,7 +273,7 @@ module _ (directory sources : List ℕ) (m : LentMachine) (stopped : Stopped dir
       second-reached : Reached second
       second-reached =
           reached-then n host-reached call tt (
-            subst Small (sym (back .record-file)) (files.small-fileOf (snapshotOf m)),
+            subst Small (sym (back .record-file)) (files.small-fileOf (machineSnapshot m)),
             subst (λ (p : List ℕ). Word (length p)) (sym (back .page-file)) (ranged m (stopped .sound .reached) .pages-word),
           )
 

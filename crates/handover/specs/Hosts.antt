@@ -28,11 +28,11 @@ pub record Stopped (directory sources : List ℕ) (m : LentMachine) : Type 0 whe
   pub settled : m .1 .next-pc ≡ m .1 .pc
 
 -- the snapshot of a machine as it is now; "outputs that are long enough" hold it
-abbrev pub snapshotOf : LentMachine → Snapshot
-snapshotOf m = snapshotNow (m .0 .0 .slots) (m .0 .0 .flags) (m .0 .0 .area) (m .0 .1) (machineOf (m .1) (m .0 .0 .memory))
+abbrev pub machineSnapshot : LentMachine → Snapshot
+machineSnapshot m = snapshotNow (m .0 .0 .slots) (m .0 .0 .flags) (m .0 .0 .area) (m .0 .1) (machineOf (m .1) (m .0 .0 .memory))
 
 abbrev pub LongEnough : LentMachine → List ℕ → List ℕ → Type 0
-LongEnough m file pages = holds (length file) (length pages) (snapshotOf m) ≡ true
+LongEnough m file pages = holds (length file) (length pages) (machineSnapshot m) ≡ true
 
 -- "a fresh machine of the same version, size and slots"
 pub record FreshHost (m n : LentMachine) : Type 0 where

@@ -10,7 +10,7 @@ use Rattle.machine.specs.Fresh.{LentMachine}
 use Rattle.recordfile.specs.Form.{inForm}
 use Rattle.recordfile.specs.Snapshots.{snapshotIn, fileOf, pageFileOf}
 use Rattle.handover.specs.Reached.{Reached}
-use Rattle.handover.specs.Hosts.{Stopped, FreshHost, LongEnough, snapshotOf, snapped, recordFile, pageFile, resumed, Agree, AnswerAlike}
+use Rattle.handover.specs.Hosts.{Stopped, FreshHost, LongEnough, machineSnapshot, snapped, recordFile, pageFile, resumed, Agree, AnswerAlike}
 
 -- what comes of a machine m, stopped, and a fresh machine n, with the sources and the outputs lent for two files
 pub record HandedOver (directory sources : List ℕ) (m n : LentMachine) (file pages : List ℕ) : Type 0 where
@@ -29,10 +29,10 @@ pub record HandedOver (directory sources : List ℕ) (m n : LentMachine) (file p
 
 -- what the files of a snapshot are
 pub record ReadsBack (m : LentMachine) (file pages : List ℕ) : Type 0 where
-  pub record-file : recordFile m file pages ≡ fileOf (snapshotOf m)
-  pub page-file : pageFile m file pages ≡ pageFileOf (snapshotOf m)
+  pub record-file : recordFile m file pages ≡ fileOf (machineSnapshot m)
+  pub page-file : pageFile m file pages ≡ pageFileOf (machineSnapshot m)
   pub in-form : inForm (recordFile m file pages) (length (pageFile m file pages)) ≡ 0
-  pub same-snapshot : snapshotIn (recordFile m file pages) (pageFile m file pages) ≡ snapshotOf m
+  pub same-snapshot : snapshotIn (recordFile m file pages) (pageFile m file pages) ≡ machineSnapshot m
 
 pub record Theorem : Type 0 where
   -- "Take a sound machine (01 says when) with a page slot for every page and no pc change pending. Snapshot it into outputs that are

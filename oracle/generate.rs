@@ -1,14 +1,18 @@
-//! Random call scripts: `generate SEED CALLS [outside]` writes a script of
-//! about CALLS calls. The same arguments give the same bytes everywhere.
+//! Random call scripts: `generate SEED CALLS [outside|twins]` writes a script
+//! of about CALLS calls. The same arguments give the same bytes everywhere.
 //!
 //! A script is a row of sessions. A session makes a few machines fresh and
 //! calls them at random, with addresses and sizes close to the bounds that
 //! the rules speak of. Calls on which the Rust stops dead are foreseen: they
 //! are few, and the machine is made fresh soon after. With `outside` the
 //! script also lends storage of wrong lengths and few slots, and writes slot
-//! numbers; such a script is not for the oracle.
+//! numbers; such a script is not for the oracle. With `twins` a session is a
+//! handover (twins.rs).
+
+mod twins;
 
 use std::io::Write;
+use twins::Twins;
 
 const PAGE: u64 = 4096;
 /// The most memory that a machine can have.
@@ -26,14 +30,14 @@ const ANSWERS_A_QUESTION: u64 = 900;
 
 fn main() {
     let words: Vec<String> = std::env::args().skip(1).collect();
-    let (seed, calls, outside) = match arguments(&words) {
+    let (seed, calls, mode) = match arguments(&words) {
         Ok(read) => read,
         Err(why) => {
             eprintln!("generate: {why}");
             std::process::exit(2);
         }
     };
-    let mut generator = Generator::new(seed, calls, outside);
+    let mut generator = Generator::new(seed, calls, mode);
     let mut out = std::io::stdout().lock();
     let done = generator.script(|text| out.write_all(text.as_bytes()).is_ok());
     if !done || out.flush().is_err() {
@@ -41,11 +45,19 @@ fn main() {
     }
 }
 
-fn arguments(words: &[String]) -> Result<(u64, u64, bool), String> {
-    let usage = "usage: generate SEED CALLS [outside]";
-    let outside = match words.len() {
-        2 => false,
-        3 if words[2] == "outside" => true,
+#[derive(Clone, Copy, PartialEq)]
+enum Mode {
+    Domain,
+    Outside,
+    Twins,
+}
+
+fn arguments(words: &[String]) -> Result<(u64, u64, Mode), String> {
+    let usage = "usage: generate SEED CALLS [outside|twins]";
+    let mode = match words.len() {
+        2 => Mode::Domain,
+        3 if words[2] == "outside" => Mode::Outside,
+        3 if words[2] == "twins" => Mode::Twins,
         _ => return Err(usage.into()),
     };
     let number = |name: &str, word: &str| -> Result<u64, String> {
@@ -59,7 +71,7 @@ fn arguments(words: &[String]) -> Result<(u64, u64, bool), String> {
     if calls > MOST_CALLS {
         return Err(format!("CALLS is above {MOST_CALLS}"));
     }
-    Ok((seed, calls, outside))
+    Ok((seed, calls, mode))
 }
 
 /// splitmix64.
@@ -320,23 +332,30 @@ struct Generator {
     /// The directory: id, start, length.
     entries: Vec<[u64; 3]>,
     source_length: u64,
+    /// What the machines of `on` hold, where they are twins.
+    twins: Option<Twins>,
 }
 
 impl Generator {
-    fn new(seed: u64, wanted: u64, outside: bool) -> Self {
-        let mode = if outside { " outside" } else { "" };
+    fn new(seed: u64, wanted: u64, mode: Mode) -> Self {
+        let said = match mode {
+            Mode::Domain => "",
+            Mode::Outside => " outside",
+            Mode::Twins => " twins",
+        };
         Self {
             random: Random { state: seed },
-            text: format!("# generate {seed} {wanted}{mode}\n"),
+            text: format!("# generate {seed} {wanted}{said}\n"),
             calls: 0,
             wanted,
             stops: 0,
             questions: 0,
-            outside,
+            outside: mode == Mode::Outside,
             machines: [Machine::Absent; 10],
             on: vec![0],
             entries: Vec::new(),
             source_length: 0,
+            twins: (mode == Mode::Twins).then(Twins::default),
         }
     }
 
@@ -348,8 +367,15 @@ impl Generator {
             self.set_up(format!("file n{k} - -"));
         }
         self.set_up("file made - -".into());
+        if self.twins.is_some() {
+            self.more_sources();
+        }
         while self.calls < self.wanted {
-            self.session();
+            if self.twins.is_some() {
+                self.twins_session()
+            } else {
+                self.session()
+            }
             if !write(&self.text) {
                 return false;
             }
@@ -414,6 +440,9 @@ impl Generator {
     // ---- lines
 
     fn set_up(&mut self, line: String) {
+        if let Some(twins) = &mut self.twins {
+            twins.meet(&line);
+        }
         self.text.push_str(&line);
         self.text.push('\n');
     }
@@ -423,8 +452,11 @@ impl Generator {
         self.calls += 1;
     }
 
-    /// The call on each machine of `on`.
+    /// The call on each machine of `on`. Twins may not be given every call.
     fn call(&mut self, words: &str) {
+        if !self.admitted(words) {
+            return;
+        }
         for i in 0..self.on.len() {
             self.answered(format!("{} {words}", self.on[i]));
         }
@@ -453,7 +485,7 @@ impl Generator {
     }
 
     fn may_stop(&self) -> bool {
-        (self.stops + 4) * ANSWERS_A_STOP < self.calls
+        self.twins.is_none() && (self.stops + 4) * ANSWERS_A_STOP < self.calls
     }
 
     /// A line whose answer is `?`.
@@ -1264,10 +1296,17 @@ impl Generator {
         for i in 0..self.on.len() {
             let k = self.on[i];
             self.answered(format!("{k} snapshot {name}{k} {records} {bytes}"));
+            if let Some(twins) = &mut self.twins {
+                twins.snapshot(format!("{name}{k}"), records, bytes);
+            }
         }
     }
 
+    /// Of each machine's pair `m`. Twins have the same there once a snapshot was done.
     fn show(&mut self) {
+        if self.twins.as_ref().is_some_and(|twins| !twins.snapped) {
+            return;
+        }
         for i in 0..self.on.len() {
             self.answered(format!("show m{}", self.on[i]));
         }
@@ -1276,6 +1315,7 @@ impl Generator {
     /// Its own last snapshot, or any pair of files, on this machine.
     fn resume(&mut self) {
         let pair = match self.random.below(7) {
+            _ if self.twins.is_some() => self.kept_pair(),
             0 => "made".into(),
             1..=3 => format!("m{}", self.on[0]),
             4 => format!("n{}", self.random.below(10)),
@@ -1368,7 +1408,7 @@ impl Generator {
         }
         self.snapshot_into(self.here(), false);
         self.show();
-        if self.random.one_in(2) {
+        if self.random.one_in(2) && self.twins.is_none() {
             self.handover();
         }
     }
@@ -1444,6 +1484,7 @@ impl Generator {
                 self.call(&format!("clear_flag {page} 255"));
             }
             1 => {}
+            _ if self.twins.is_some() => {}
             _ => self.turn_fresh(self.on[0]),
         }
         self.call("resume made");
@@ -1482,7 +1523,7 @@ impl Generator {
         bytes.extend(vec![0; file.more]);
         let pages = self.bytes(file.page_bytes);
         self.set_up(format!("file made {} {pages}", hex(&bytes)));
-        if self.random.one_in(12) {
+        if self.random.one_in(12) && self.twins.is_none() {
             self.answered("show made".into());
         }
         self.call("resume made");

@@ -2,7 +2,7 @@
 use mathlib.Core.Path.{_≡_, refl, sym, ap, _∙_, subst⁻¹}
 use mathlib.Core.List.{List, [], _∷_}
 use mathlib.Core.Logic.{inl, inr}
-use Prim.Native.Nat.{ℕ, _*_, _/_, _%_, _<_}
+use Prim.Native.Nat.{ℕ, _*_, _/_, _%_, _≤_, _<_}
 use native.Mathlib.Omega.{arith}
 use lib.ListN.{length, getD}
 use lib.Dec.{eqb, ltb}
@@ -42,7 +42,8 @@ use Rattle.handover.specs.Calls.{Named, round-page-up, round-page-down, 
 use Rattle.handover.specs.Reached.{Typed}
 use Rattle.handover.specs.Sound.{SoundPage, SoundPages, is-dirty, is-blank, Sound}
 use Rattle.handover.specs.Keeping.{NothingLost, KeepsMemory, KeepsNamed, Keeps, Usual}
-use Rattle.handover.proofs.WellFormed.{given-lengths}
+use Rattle.handover.specs.Hosts.{Stopped}
+use Rattle.handover.proofs.WellFormed.{given-lengths, fresh-done}
 use Rattle.handover.proofs.Seen.{mask-twice, machine-seen, blank, fresh-seen}
 use Rattle.handover.proofs.Gentle.{Good, page-same, page-bytes, Step, stepped-good, flag-step, on-page-step, Kind, asks, sets, inits, kind, op-good, GentleTracked, gentle-kept, gentle-onMemory, gentle-untrackPages, gentle-pageRecord, gentle-machine-kept, gentle-makeSnapshot}
 use Rattle.handover.proofs.Reaching.{reached-whole, reached-fresh, reached-then}
@@ -98,6 +99,18 @@ fresh-sound directory sources slots flags area records size version maximum done
           subst⁻¹ (λ (u : MachineView). SoundPages directory sources (u .0))
           (fresh-seen slots flags area records size version maximum done)
           (blank-pages directory sources size);
+    }
+
+-- so the theorem's hypotheses are met: with a slot for every page it is stopped
+pub fresh-stopped : (directory sources slots flags area records : List ℕ) (size version maximum : ℕ)
+    → (fresh slots flags area records size version maximum) .0 ≡ 0 → version < versions → Word maximum → size ≤ length area
+    → Stopped directory sources ((fresh slots flags area records size version maximum) .1)
+fresh-stopped directory sources slots flags area records size version maximum done small word room =
+    let e = fresh-done slots flags area records size version maximum done in
+    record {
+      sound = fresh-sound directory sources slots flags area records size version maximum done small word;
+      roomy = rw e room;
+      settled = rw e;
     }
 
 -- ---- every call but fresh

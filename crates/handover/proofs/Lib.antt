@@ -34,3 +34,4 @@ pub mod NotKept
 -- the handover theorem:
 pub mod Agreeing
 pub mod Theorem
+pub mod Meant

@@ -21,6 +21,7 @@ use Rattle.recordfile.specs.Words.{recordBytes}
 use Rattle.recordfile.specs.Records.{flagValues}
 use Rattle.recordfile.specs.Form.{leastRecords}
 use Rattle.recordfile.specs.Snapshots.{Word}
+use Rattle.handover.specs.View.{view}
 use Rattle.handover.specs.Calls.{Named, round-page-up, round-page-down, get-page-indices, on-memory, on-numbers, load-data, untrack-pages, store-bytes, page-record, make-snapshot, named, clear-flag, Careful}
 use Rattle.handover.specs.Reached.{Reached, TypedNumbers}
 use Rattle.handover.specs.Keeping.{Usual}
@@ -147,7 +148,7 @@ always directory sources =
       sparse-init = λ a size flags lead source h. (tt, h, λ m. tt);
       fill = λ a size lead source. (tt, tt, λ m. tt);
       fetch-flag = λ p. (tt, tt, λ m. tt);
-      set-flag = λ p f h n. (tt, h, λ m. inl (dirty-stays _ f n));
+      set-flag = λ p f h n. (tt, h, λ m. inl (dirty-stays (view (m .0) .memory .flag p) f n));
       check-permission = λ first last want. (tt, tt, λ m. tt);
       set-dirty = λ first last. (tt, tt, λ m. tt);
       memory-size = (tt, tt, λ m. tt);

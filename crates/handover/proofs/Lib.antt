@@ -35,3 +35,5 @@ pub mod NotKept
 pub mod Agreeing
 pub mod Theorem
 pub mod Meant
+-- each call is what its promise says:
+pub mod Promised

@@ -6,7 +6,6 @@ use mathlib.Core.Path.{_≡_, refl, ap, _∙_}
 use Prim.Native.Nat.{ℕ, _+_, _*_, _/_, _<_}
 use native.Mathlib.Omega.{arith}
 use lib.Bits.{bitAnd, bitOr, or-comm}
-use lib.ListN.{length}
 use borrow.Author.Tests.{eq-eqb}
 use Rattle.bits.specs.Rounding.{pageSize}
 use Rattle.words.specs.Bytes.{filled}

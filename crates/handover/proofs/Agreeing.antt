@@ -10,6 +10,7 @@ use lib.ListN.{length, getD, List·getD-eq-default}
 use lib.Dec.{eqb}
 use borrow.Author.Tests.{eq-eqb}
 use Rattle.bits.specs.Rounding.{pageSize}
+use Rattle.program.specs.Program.{run, perform}
 use Rattle.memory.specs.Pages.{dirty}
 use Rattle.memory.specs.Storage.{absent, slotIn, byteIn}
 use Rattle.memory.specs.View.{Roomy}
@@ -18,13 +19,13 @@ use Rattle.machine.specs.Fresh.{LentMachine, recordWords}
 use Rattle.tracking.specs.declared.records.Tracking.{Tracking}
 use Rattle.tracking.specs.declared.records.Tracking.the-variants.{Untracked, Tracked}
 use Rattle.tracking.specs.Records.{recordOf, recordAt}
-use Rattle.tracking.specs.Operations.{masked, entryIn, top}
+use Rattle.tracking.specs.Operations.{masked, entryIn, MachineOp, machineDoes, top}
 use Rattle.snapshot.specs.Runs.{flagAt}
 use Rattle.handover.specs.View.{view, MachineView, viewMachine, FormedMachine}
 use Rattle.handover.specs.Reached.{Reached}
 use Rattle.handover.specs.Sound.{Sound}
 use Rattle.handover.specs.Hosts.{Agree, AnswerAlike}
-use Rattle.handover.proofs.Seen.{mask-clean, mask-dirty, mask-twice, equal-calls}
+use Rattle.handover.proofs.Seen.{mask-clean, mask-dirty, mask-twice, programs-alike, equal-calls}
 use Rattle.handover.proofs.Reaching.{reached-formed, reached-whole}
 use Rattle.handover.proofs.InTypes.{InTypes, reached-in-types}
 use Rattle.handover.proofs.Restoring.{Right}
@@ -75,6 +76,14 @@ seen-agree m n e =
 pub further : (m n : LentMachine) → Reached m → Reached n → Roomy (m .0 .0) → Roomy (n .0 .0) → Agree m n → AnswerAlike m n
 further m n rm rn room-m room-n a = λ calls careful.
     (equal-calls calls careful n m (reached-whole n rn room-n) (reached-whole m rm room-m) (agree-seen m n a)) .0
+
+-- and reply alike to one operation, which is what a public leaf that no call of the list stands for comes to
+pub operation-alike : (o : MachineOp) (m n : LentMachine) → Reached m → Reached n → Roomy (m .0 .0) → Roomy (n .0 .0) → Agree m n
+    → ((machineDoes o n) .0 ≡ (machineDoes o m) .0) × Agree ((machineDoes o m) .1) ((machineDoes o n) .1)
+unfolding run
+operation-alike o m n rm rn room-m room-n a =
+    let e = programs-alike (perform o) n m (reached-whole n rn room-n) (reached-whole m rm room-m) (agree-seen m n a) in
+    (e .0, seen-agree _ _ (e .1))
 
 -- ---- past the machine
 

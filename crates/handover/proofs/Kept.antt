@@ -2,7 +2,7 @@
 use mathlib.Core.Path.{_≡_, refl, sym, ap, _∙_, subst⁻¹}
 use mathlib.Core.List.{List, [], _∷_}
 use mathlib.Core.Logic.{inl, inr}
-use Prim.Native.Nat.{ℕ, _*_, _/_, _%_, _≤_, _<_}
+use Prim.Native.Nat.{ℕ, _+_, _-_, _*_, _/_, _%_, _≤_, _<_}
 use native.Mathlib.Omega.{arith}
 use lib.ListN.{length, getD}
 use lib.Dec.{eqb, ltb}
@@ -13,6 +13,7 @@ use Rattle.words.proofs.Filled.{length-filled, filled-at}
 use Rattle.program.specs.Program.{run}
 use Rattle.program.specs.Layers.{low, beside, lift}
 use Rattle.program.proofs.Lifted.{lift-run}
+use Rattle.program.proofs.Like.{Like}
 use Rattle.memory.specs.Pages.{cleared}
 use Rattle.memory.specs.Storage.{span}
 use Rattle.memory.specs.Operations.{or! }
@@ -28,12 +29,13 @@ use Rattle.memory.proofs.Seen as memory-laws
 use Rattle.machine.specs.Fresh.{Tracked, LentMachine, fresh}
 use Rattle.machine.specs.Operations as machine
 use Rattle.recordfile.specs.Form.{inForm}
-use Rattle.recordfile.specs.Records.{versions}
+use Rattle.recordfile.specs.Records.{versions, flagValues}
 use Rattle.recordfile.specs.Snapshots.{Word, Each, snapshotIn}
 use Rattle.tracking.specs.declared.records.Tracking.the-variants.{Untracked}
 use Rattle.tracking.specs.Records.{recordAt}
-use Rattle.tracking.specs.Operations.{Call, MachineCall, machineDoes, onMemory, masked}
-use Rattle.tracking.specs.Tracking.{trackPages, untrackPages, storeBytes, markProgram, pageRecord}
+use Rattle.tracking.specs.Sources.{findData, dataOf}
+use Rattle.tracking.specs.Operations.{Call, MachineCall, does, owns, machineDoes, onMemory, masked}
+use Rattle.tracking.specs.Tracking.{trackPages, untrackPages, storeBytes, markProgram, actionAt, pageRecord}
 use Rattle.snapshot.specs.MakeSnapshot.{makeSnapshot}
 use Rattle.snapshot.specs.Resume.{restorePages, restoreNumbers, restore, resumeFrom}
 use Rattle.snapshot.specs.Resume as snapshot
@@ -43,13 +45,13 @@ use Rattle.handover.specs.Reached.{Typed}
 use Rattle.handover.specs.Sound.{SoundPage, SoundPages, is-dirty, is-blank, Sound}
 use Rattle.handover.specs.Keeping.{NothingLost, KeepsMemory, KeepsNamed, Keeps, Usual}
 use Rattle.handover.specs.Hosts.{Stopped}
-use Rattle.handover.proofs.WellFormed.{given-lengths, fresh-done}
+use Rattle.handover.proofs.WellFormed.{SameLengths, given-lengths, fresh-done}
 use Rattle.handover.proofs.Seen.{mask-twice, machine-seen, blank, fresh-seen}
 use Rattle.handover.proofs.Gentle.{Good, page-same, page-bytes, Step, stepped-good, flag-step, on-page-step, Kind, asks, sets, inits, kind, op-good, GentleTracked, gentle-kept, gentle-onMemory, gentle-untrackPages, gentle-pageRecord, gentle-machine-kept, gentle-makeSnapshot}
 use Rattle.handover.proofs.Reaching.{reached-whole, reached-fresh, reached-then}
-use Rattle.handover.proofs.KeptTracking.{track-kept, mark-kept}
+use Rattle.handover.proofs.KeptTracking.{ActionGives, track-kept, mark-kept}
 use Rattle.handover.proofs.KeptSources.{context-kept, resume-kept}
-use Rattle.handover.proofs.KeptInit.{init-kept}
+use Rattle.handover.proofs.KeptInit.{init-kept, loaded-gives}
 
 -- ---- a flag cleared
 
@@ -228,3 +230,63 @@ usual-sound directory sources (g ∷ gs) usual m room s =
     let e = given-lengths g (u .0) m in
     usual-sound directory sources gs (usual .1) _ (omega (arith, room, e .memory .size, e .memory .area))
     (sound-kept directory sources m g (u .0) (u .1) (u .2 m) room s)
+
+-- ---- a program loaded, then marked
+
+-- the bytes of an item from an offset and a start on, as an action has them
+module _ (directory sources : List ℕ) (a size flags start end lead id offset : ℕ) where
+  abbrev pub item : List ℕ
+  item = dataOf sources (findData directory (length sources) id (offset + start) (end - start))
+
+  abbrev pub loads : Named
+  loads = on-memory (memory-calls.init-pages memory-calls.on-wxorx a size flags lead item)
+
+  abbrev pub marks : Named
+  marks = mark-program (a ∷ size ∷ flags ∷ start ∷ end ∷ lead ∷ []) id offset
+
+  pub loaded-sound : flags < flagValues → Word id → findData directory (length sources) id (offset + start) (end - start) .number ≡ 0
+      → length item ≡ end - start → (m : LentMachine) → Roomy (m .0 .0) → Sound directory sources m → (answer (named loads) m) .0 ≡ 0
+      → Sound directory sources (leaves (named loads ∷ named marks ∷ []) m)
+  unfolding leaves
+  loaded-sound small word found long m room s done =
+      sound-kept directory sources first (named marks) tt word gives (omega (arith, room, e .memory .size, e .memory .area))
+      (sound-kept directory sources m (named loads) tt small (λ z. absurd (omega (arith, below, done, z))) room s)
+    where
+      program-run : memory-op.Call ℕ
+      program-run = wxorx.initPages a size flags lead item
+
+      first : LentMachine
+      first = (answer (named loads) m) .1
+
+      e : SameLengths (m .0) (first .0)
+      e = given-lengths (named loads) tt m
+
+      whole : WholeMachine m
+      whole = reached-whole m (s .reached) room
+
+      seen : Like WholeMachine viewMachine (run machineDoes (program loads) m) (run machineDoesV (program loads) (viewMachine m))
+      seen = machine-seen (program loads) m whole
+
+      lifted : run machineDoesV (program loads) (viewMachine m)
+          ≡ ((run doesV (onMemory program-run) (view (m .0))) .0, ((run doesV (onMemory program-run) (view (m .0))) .1, m .1))
+      lifted = lift-run doesV (beside machine.does) (onMemory program-run) (view (m .0)) (m .1)
+
+      below : (run memory-op.does program-run (m .0 .0)) .0 ≡ (answer (named loads) m) .0
+      below =
+          sym
+          (ap (λ (x : ℕ × LentMachine). x .0) (lift-run does (beside machine.does) (onMemory program-run) (m .0) (m .1))
+          ∙ ap (λ (x : ℕ × Tracked). x .0) (lift-run memory-op.does owns program-run (m .0 .0) (m .0 .1)))
+
+      gives : (i : ℕ) → i < 1
+          → ActionGives directory sources (view (first .0)) id offset (actionAt (a ∷ size ∷ flags ∷ start ∷ end ∷ lead ∷ []) i)
+      gives =
+          subst⁻¹
+          (λ (u : View). (i : ℕ) → i < 1
+          → ActionGives directory sources u id offset (actionAt (a ∷ size ∷ flags ∷ start ∷ end ∷ lead ∷ []) i))
+          (ap (λ (u : MachineView). u .0) (seen .seen) ∙ ap (λ (x : ℕ × MachineView). x .1 .0) lifted)
+          (loaded-gives directory sources (view (m .0)) a size flags start end lead id offset
+          (record { pages = s .pages; masked = λ q. mask-twice (getD (m .0 .0 .flags) q 0) (getD (m .0 .0 .flags) q 0) (recordAt (m .0 .1) q) (λ c. c) })
+          (whole .memory .formed .fit .whole)
+          found
+          long
+          (sym (ap (λ (x : ℕ × MachineView). x .0) lifted) ∙ sym (seen .out) ∙ done))

@@ -21,7 +21,7 @@ use Rattle.memory.specs.View as memory
 use Rattle.memory.proofs.StoreCases.{cases}
 use Rattle.tracking.specs.Sources.{findData, dataOf}
 use Rattle.tracking.specs.Operations.{onMemory}
-use Rattle.tracking.specs.Tracking.{actionAt, markProgram}
+use Rattle.tracking.specs.Tracking.{actionAt}
 use Rattle.handover.specs.View.{View, doesV}
 use Rattle.handover.proofs.Effects.{Touched, Apart}
 use Rattle.handover.proofs.Gentle.{Good, Step, same-step}
@@ -29,7 +29,7 @@ use Rattle.handover.proofs.Steps.{after-cases, each-kept}
 use Rattle.handover.proofs.Storing.{touched?, at-one-other}
 use Rattle.handover.proofs.Filling.{Filled, fill-filled}
 use Rattle.handover.proofs.Tracked.{on-memory}
-use Rattle.handover.proofs.KeptTracking.{ActionGives, mark-kept}
+use Rattle.handover.proofs.KeptTracking.{ActionGives}
 use Rattle.handover.proofs.KeptStores.{Stepped, stepped-kept, bytes-apart}
 use Rattle.handover.proofs.KeptSources.{data-gives}
 
@@ -191,30 +191,25 @@ module _ (directory sources : List ℕ) where
     abbrev loaded : ℕ × View
     loaded = run doesV (onMemory (initPages a size flags lead source)) v
 
-    pub loaded-kept : Good directory sources v → v .memory .size % pageSize ≡ 0
-        → findData directory (length sources) id (offset + start) (end - start) .number ≡ 0 → length source ≡ end - start
-        → loaded .0 ≡ 0
-        → Good directory sources
-        ((run doesV (markProgram (a ∷ size ∷ flags ∷ start ∷ end ∷ lead ∷ []) id offset) (loaded .1)) .1)
-    loaded-kept g whole found long done =
-        mark-kept directory sources (loaded .1) (a ∷ size ∷ flags ∷ start ∷ end ∷ lead ∷ []) id offset
-        (init-kept v a size flags lead source g whole (λ e. absurd (omega (arith, answer)))) only
-      where
-        r : ℕ × memory.View
-        r = run memory.doesV (initPages a size flags lead source) (v .memory)
+    module _ (g : Good directory sources v) (whole : v .memory .size % pageSize ≡ 0)
+        (found : findData directory (length sources) id (offset + start) (end - start) .number ≡ 0) (long : length source ≡ end - start)
+        (done : loaded .0 ≡ 0) where
+      abbrev r : ℕ × memory.View
+      r = run memory.doesV (initPages a size flags lead source) (v .memory)
 
-        answer : r .0 ≡ 0
-        answer = sym (ap (λ (x : ℕ × View). x .0) (on-memory (initPages a size flags lead source) v (g .masked))) ∙ done
+      answer : r .0 ≡ 0
+      answer = sym (ap (λ (x : ℕ × View). x .0) (on-memory (initPages a size flags lead source) v (g .masked))) ∙ done
 
-        bytes : (i : ℕ) → i < min (end - start) (size - lead) → loaded .1 .memory .byte (a + lead + i) ≡ getD source i 0
-        bytes i h =
-            ap (λ (x : ℕ × View). x .1 .memory .byte (a + lead + i))
-            (on-memory (initPages a size flags lead source) v (g .masked))
-            ∙ initialised (v .memory) a size flags lead source whole .byte answer i (rw long h)
+      bytes : (i : ℕ) → i < min (end - start) (size - lead) → loaded .1 .memory .byte (a + lead + i) ≡ getD source i 0
+      bytes i h =
+          ap (λ (x : ℕ × View). x .1 .memory .byte (a + lead + i))
+          (on-memory (initPages a size flags lead source) v (g .masked))
+          ∙ initialised (v .memory) a size flags lead source whole .byte answer i (rw long h)
 
-        only : (i : ℕ) → i < 1
-            → ActionGives directory sources (loaded .1) id offset (actionAt (a ∷ size ∷ flags ∷ start ∷ end ∷ lead ∷ []) i)
-        only zero h =
-            data-gives directory sources id (offset + start) (end - start) (loaded .1) (a + lead) (min (end - start) (size - lead)) found
-            (omega arith) bytes
-        only (suc i) h = absurd (omega arith)
+      -- what is to be marked is what the source gives
+      pub loaded-gives : (i : ℕ) → i < 1
+          → ActionGives directory sources (loaded .1) id offset (actionAt (a ∷ size ∷ flags ∷ start ∷ end ∷ lead ∷ []) i)
+      loaded-gives zero h =
+          data-gives directory sources id (offset + start) (end - start) (loaded .1) (a + lead) (min (end - start) (size - lead)) found
+          (omega arith) bytes
+      loaded-gives (suc i) h = absurd (omega arith)

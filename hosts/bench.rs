@@ -9,6 +9,7 @@
 //! pages those of memmove or memset alone, or of two plain copies. tools/bench runs it and prints the table.
 
 #[allow(dead_code)]
+#[path = "rust/src/archive.rs"]
 mod archive;
 #[allow(dead_code)]
 #[path = "../oracle/recordfile.rs"]

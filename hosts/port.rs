@@ -8,6 +8,8 @@
 //! No answer shows what a snapshot leaves in its outputs past what it wrote, or where it refuses. It is looked at here:
 //! were a byte of it another than before, the runner would say so and end with status 3.
 
+#[allow(dead_code)]
+#[path = "rust/src/archive.rs"]
 mod archive;
 mod callscript;
 

@@ -320,9 +320,9 @@ pub struct Sources<'a> {
 }
 
 mod lent {
-    use super::{ContextStored, Found, Machine, MachineAnswer, Made, Recorded};
+    use super::{ContextStored, Found, Machine, MachineAnswer, Made, Recorded, Stored};
 
-    /// The functions that are lent a memory's storage with its records, or sources, `latchpebble_..`.
+    /// The functions that are lent a memory's storage, with its records or without, or sources, `latchpebble_..`.
     macro_rules! functions {
         ($(fn $call:ident($($word:ty),*) -> $answer:ty;)*) => {
             #[link(name = "host", kind = "static")]
@@ -334,6 +334,9 @@ mod lent {
     }
 
     functions! {
+        fn check_permission(*const u16, usize, *const u8, usize, *const u8, usize, u64, u64, u64, u8, u64) -> u32;
+        fn set_dirty(*const u16, usize, *mut u8, usize, *const u8, usize, u64, u64, u64, u64) -> u32;
+        fn fill_page_data(*mut u16, usize, *mut u8, usize, *mut u8, usize, *const u8, usize, u64, u64, u64, u64, u64) -> Stored;
         fn machine_fresh(*mut u16, usize, *mut u8, usize, *mut u8, usize, *mut u64, usize, u64, u32, u64) -> MachineAnswer;
         fn find_data(*const u64, usize, *const u8, usize, u64, u64, u64) -> Found;
         fn track_pages(*const u16, usize, *mut u8, usize, *const u8, usize, *mut u64, usize, u64, u64, u64, u64, u64, u64) -> u32;
@@ -344,6 +347,18 @@ mod lent {
         fn make_snapshot(*const u16, usize, *const u8, usize, *const u8, usize, *const u64, usize, *mut u8, usize, *mut u8, usize, Machine) -> Made;
         fn resume(*mut u16, usize, *mut u8, usize, *mut u8, usize, *mut u64, usize, *const u64, usize, *const u8, usize, *const u8, usize, *const u8, usize, Machine) -> MachineAnswer;
     }
+}
+
+pub fn check_permission(lent: Lent, memory: Memory, first: u64, last: u64, flag: u8) -> u32 {
+    lend!(lent::check_permission, lent, memory.size, first, last, flag, memory.used)
+}
+
+pub fn set_dirty(lent: Lent, memory: Memory, first: u64, last: u64) -> u32 {
+    lend!(lent::set_dirty, lent, memory.size, first, last, memory.used)
+}
+
+pub fn fill_page_data(lent: Lent, source: &[u8], memory: Memory, address: u64, size: u64, lead: u64) -> Stored {
+    lend!(lent::fill_page_data, lent, source.as_ptr(), source.len(), memory.size, address, size, lead, memory.used)
 }
 
 /// A function that is lent storage and records, with the words that follow them.

@@ -356,6 +356,11 @@ pub trait Host {
     fn answer(&mut self, line: Line) -> Result<Option<String>, Fault>;
 }
 
+/// The answer's line to a line of a script, nothing where it asks nothing; or why it is none of the format.
+pub fn answer(host: &mut impl Host, text: &str) -> Result<Option<String>, Fault> {
+    read(text)?.map_or(Ok(None), |line| host.answer(line))
+}
+
 /// Reads a script from standard input and writes its answers. The faults of lines that are none of
 /// the format are said on standard error, the first twenty.
 pub fn run(host: &mut impl Host) -> io::Result<()> {
@@ -372,9 +377,7 @@ pub fn run(host: &mut impl Host) -> io::Result<()> {
             return Ok(());
         }
         count += 1;
-        let line = read(&String::from_utf8_lossy(&text));
-        let answer = line.and_then(|line| line.map_or(Ok(None), |line| host.answer(line)));
-        match answer {
+        match answer(host, &String::from_utf8_lossy(&text)) {
             Ok(Some(answer)) => writeln!(output, "{answer}")?,
             Ok(None) => {}
             Err(fault) => {
@@ -393,7 +396,7 @@ pub fn run(host: &mut impl Host) -> io::Result<()> {
 /// A runner's `main`: no arguments, the script on standard input; a closed output ends it quietly.
 pub fn main_of(host: &mut impl Host) -> std::process::ExitCode {
     if std::env::args_os().len() > 1 {
-        eprintln!("calls: the script is read from standard input; there are no further words");
+        eprintln!("usage: oracle|port < SCRIPT (docs/CALL-SCRIPT.md); there are no further words");
         return 2.into();
     }
     match run(host) {

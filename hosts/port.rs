@@ -1,6 +1,7 @@
 //! The port behind the call script, over the archive of crate `host`.
 //!
-//! The storage that `fresh` makes is held here and lent to each call, and so are the sources and the pairs of files. The
+//! The storage that `fresh` makes is held here and lent to each call, and so are the sources and the pairs of files. Each
+//! slice that is lent is an allocation of its length, so that tools/sanitize sees a byte that is read or written past it. The
 //! flag calls, the reservation and `dump` have no letter: a machine with an even number asks the W^X memory for them, one
 //! with an odd number the sparse memory. The numbers that an odd one lends have a part of an entry or of an action after
 //! the last whole one.
@@ -10,8 +11,8 @@
 
 #[allow(dead_code)]
 #[path = "rust/src/archive.rs"]
-mod archive;
-mod callscript;
+pub mod archive;
+pub mod callscript;
 
 use archive::{
     Calls, ContextStored, Files, Found, Fresh, Lent, MachineAnswer, Made, Recorded, SPARSE, Sources, Stored, Tracked,
@@ -37,16 +38,16 @@ const MOST_PAGES: u64 = 1 << 16;
 
 // ---- storage
 
-/// A slice that is lent: all that is held of it, its first length, and the length that is lent now.
+/// A slice that is lent: what is lent now, what is held after it, and its first length.
 struct Held<T> {
-    all: Vec<T>,
+    lent: Box<[T]>,
+    rest: Vec<T>,
     first: usize,
-    lent: usize,
 }
 
 impl<T: Clone + Default> Held<T> {
     fn new(value: T, length: usize) -> Self {
-        Held { all: vec![value; length], first: length, lent: length }
+        Held { lent: vec![value; length].into(), rest: vec![], first: length }
     }
 
     /// Fails where a slice so long would have more bytes than a line may have lent.
@@ -56,14 +57,18 @@ impl<T: Clone + Default> Held<T> {
     }
 
     fn lend(&mut self, length: usize) {
-        if length > self.all.len() {
-            self.all.resize(length, T::default());
+        let mut all = std::mem::take(&mut self.lent).into_vec();
+        all.append(&mut self.rest);
+        if length > all.len() {
+            all.resize(length, T::default());
         }
-        self.lent = length;
+        self.rest = all.split_off(length);
+        self.lent = all.into();
     }
 
-    fn now(&mut self) -> &mut [T] {
-        &mut self.all[..self.lent]
+    /// An element that is held, lent or not.
+    fn element(&mut self, i: usize) -> Option<&mut T> {
+        self.lent.iter_mut().chain(&mut self.rest).nth(i)
     }
 }
 
@@ -87,12 +92,12 @@ impl Storage {
     }
 
     fn lent(&mut self) -> Lent<'_> {
-        Lent { slots: self.slots.now(), flags: self.flags.now(), area: self.area.now() }
+        Lent { slots: &mut self.slots.lent, flags: &mut self.flags.lent, area: &mut self.area.lent }
     }
 
     fn tracked(&mut self) -> Tracked<'_> {
-        let lent = Lent { slots: self.slots.now(), flags: self.flags.now(), area: self.area.now() };
-        Tracked { lent, records: self.words.now() }
+        let lent = Lent { slots: &mut self.slots.lent, flags: &mut self.flags.lent, area: &mut self.area.lent };
+        Tracked { lent, records: &mut self.words.lent }
     }
 
     fn lend(&mut self, lengths: Option<[u64; 4]>) -> Result<(), Fault> {
@@ -112,14 +117,14 @@ impl Storage {
         Ok(())
     }
 
-    /// Whether a memory's part of both is the same.
+    /// Whether a memory's part of both is the same, both as they were made.
     fn same_memory(&self, other: &Storage) -> bool {
-        self.slots.all == other.slots.all && self.flags.all == other.flags.all && self.area.all == other.area.all
+        self.slots.lent == other.slots.lent && self.flags.lent == other.flags.lent && self.area.lent == other.area.lent
     }
 
     /// Writes a page's slot number where one is held, lent or not.
     fn write_slot(&mut self, page: u64, number: u16) {
-        if let Some(slot) = usize::try_from(page).ok().and_then(|page| self.slots.all.get_mut(page)) {
+        if let Some(slot) = usize::try_from(page).ok().and_then(|page| self.slots.element(page)) {
             *slot = number;
         }
     }
@@ -135,13 +140,13 @@ struct Machine {
 #[derive(Default)]
 struct HeldSources {
     directory: Vec<u64>,
-    bytes: Vec<u8>,
+    bytes: Box<[u8]>,
 }
 
 /// A record file and its page file.
 struct Pair {
-    records: Vec<u8>,
-    pages: Vec<u8>,
+    records: Box<[u8]>,
+    pages: Box<[u8]>,
 }
 
 impl Pair {
@@ -163,12 +168,17 @@ fn no_files<T>(name: &str) -> Result<T, Fault> {
     Err(format!("no files {name:.40}"))
 }
 
+/// An output of so many bytes, as it is before a call.
+fn output(room: usize) -> Vec<u8> {
+    vec![UNWRITTEN; room]
+}
+
 /// The front of an output, so many bytes: all that was written of it.
-fn front(mut out: Vec<u8>, written: u64) -> Vec<u8> {
+fn front(mut out: Vec<u8>, written: u64) -> Box<[u8]> {
     match usize::try_from(written).ok().and_then(|written| out.get(written..)) {
         Some(rest) if rest.iter().all(|byte| *byte == UNWRITTEN) => {
             out.truncate(written as usize);
-            out
+            out.into()
         }
         Some(_) => broken("a snapshot wrote bytes past those that it answers for"),
         None => broken("a snapshot answers for more bytes than its output has"),
@@ -223,22 +233,12 @@ impl Machine {
         [&actions.iter().flat_map(numbers).collect::<Vec<_>>(), more].concat()
     }
 
-    /// `out` is written over: each output is made in it.
-    fn call(
-        &mut self,
-        sources: &HeldSources,
-        pairs: &mut Pairs,
-        out: &mut Vec<u8>,
-        call: Call,
-    ) -> Result<String, Fault> {
+    fn call(&mut self, sources: &HeldSources, pairs: &mut Pairs, call: Call) -> Result<String, Fault> {
         let (own, numbers, memory) = (self.own(), self.numbers, self.numbers.memory);
         let storage = &mut self.storage;
-        let mut output = |room| {
-            out.clear();
-            out.resize(room, UNWRITTEN);
-        };
         Ok(match call {
             Call::StoreBytes { layer, address, bytes } => {
+                let bytes = bytes.into_boxed_slice();
                 let stored = calls(layer).store_bytes(storage.lent(), &bytes, memory, address);
                 self.stored(stored)
             }
@@ -257,6 +257,7 @@ impl Machine {
                 self.stored(stored)
             }
             Call::InitPages { layer, address, size, flags, lead, bytes } => {
+                let bytes = bytes.into_boxed_slice();
                 let stored = calls(layer).init_pages(storage.lent(), &bytes, memory, address, size, flags, lead);
                 self.stored(stored)
             }
@@ -278,14 +279,14 @@ impl Machine {
                 value(load(calls(layer), storage.lent(), memory, address))
             }
             Call::LoadBytes { layer, address, size, room } => {
-                output(room);
-                let number = calls(layer).load_bytes(storage.lent(), out, memory, address, size);
-                format!("{number} {}", hex(out))
+                let mut out = output(room);
+                let number = calls(layer).load_bytes(storage.lent(), &mut out, memory, address, size);
+                format!("{number} {}", hex(&out))
             }
             Call::LoadCString { layer, address, room } => {
-                output(room);
-                let Value { number, value } = calls(layer).load_c_string(storage.lent(), out, memory, address);
-                format!("{number} {value} {}", hex(out))
+                let mut out = output(room);
+                let Value { number, value } = calls(layer).load_c_string(storage.lent(), &mut out, memory, address);
+                format!("{number} {value} {}", hex(&out))
             }
             Call::FetchFlag { page } => value(own.fetch_flag(storage.lent(), memory, page)),
             Call::SetFlag { page, flag } => own.set_flag(storage.lent(), memory, page, flag).to_string(),
@@ -350,15 +351,15 @@ impl Machine {
                 Some(pair) => self.resume(sources, pair),
                 None => return no_files(&name),
             },
-            Call::Dump => self.dump(out),
+            Call::Dump => self.dump(),
             Call::Raw => self.raw(),
         })
     }
 
     /// The outputs have so many bytes. A refused snapshot has written none.
     fn snapshot(&mut self, pairs: &mut Pairs, name: String, records: u64, pages: u64) -> String {
-        let room = |bytes: u64| vec![UNWRITTEN; bytes.min(MOST_ROOM) as usize];
-        let (mut file, mut images) = (room(records), room(pages));
+        let room = |bytes: u64| bytes.min(MOST_ROOM) as usize;
+        let (mut file, mut images) = (output(room(records)), output(room(pages)));
         let tracked = self.storage.tracked();
         let Made { number, records, pages } = archive::make_snapshot(tracked, &mut file, &mut images, self.numbers);
         let written = |count: u64, each| if number == 0 { count.saturating_mul(each) } else { 0 };
@@ -379,28 +380,26 @@ impl Machine {
     }
 
     /// By the port's own loads, flags and records.
-    fn dump(&mut self, out: &mut Vec<u8>) -> String {
+    fn dump(&mut self) -> String {
         let (own, memory) = (self.own(), self.numbers.memory);
         let storage = &mut self.storage;
         let refused = |number| format!("{number} 0 0 0 0");
         let size = own.memory_size(memory);
-        out.clear();
-        out.resize(size as usize, UNWRITTEN);
-        match own.load_bytes(storage.lent(), out, memory, 0, size) {
+        let mut out = output(size as usize);
+        match own.load_bytes(storage.lent(), &mut out, memory, 0, size) {
             0 => {}
             number => return refused(number),
         }
-        let bytes = hash(out);
+        let bytes = hash(&out);
         // of no page: the records' length, also where the memory has no page
         match archive::untrack_pages(storage.tracked(), memory, 0, 0) {
             0 => {}
             number => return refused(number),
         }
-        out.clear();
-        let mut records = String::new();
+        let (mut flags, mut records) = (vec![], String::new());
         for page in 0..own.memory_pages(memory) {
             match own.fetch_flag(storage.lent(), memory, page) {
-                Value { number: 0, value } => out.push(value as u8),
+                Value { number: 0, value } => flags.push(value as u8),
                 Value { number, .. } => return refused(number),
             }
             match archive::page_record(storage.tracked(), memory, page) {
@@ -409,7 +408,7 @@ impl Machine {
                 Recorded { number, .. } => return refused(number),
             }
         }
-        format!("0 {size} {} {bytes} {}{records}", own.lr(memory), hex(out))
+        format!("0 {size} {} {bytes} {}{records}", own.lr(memory), hex(&flags))
     }
 
     /// Of what is lent now, right or wrong.
@@ -422,11 +421,11 @@ impl Machine {
 
 // ---- the host
 
-struct Port {
+#[derive(Default)]
+pub struct Port {
     machines: [Option<Machine>; 10],
     sources: HeldSources,
     pairs: Pairs,
-    out: Vec<u8>,
 }
 
 impl Port {
@@ -464,7 +463,7 @@ impl Host for Port {
             Line::Source { id, bytes } => {
                 let HeldSources { directory, bytes: held } = &mut self.sources;
                 directory.extend([id, held.len() as u64, bytes.len() as u64]);
-                held.extend(bytes);
+                *held = [&held[..], &bytes].concat().into();
                 return Ok(None);
             }
             Line::Entry { id, start, length } => {
@@ -472,7 +471,7 @@ impl Host for Port {
                 return Ok(None);
             }
             Line::File { name, records, pages } => {
-                self.pairs.insert(name, Pair { records, pages });
+                self.pairs.insert(name, Pair { records: records.into(), pages: pages.into() });
                 return Ok(None);
             }
             Line::Lend { machine, lengths } => {
@@ -499,15 +498,14 @@ impl Host for Port {
                 None => return no_files(&name),
             },
             Line::Call { machine, call } => {
-                let Port { machines, sources, pairs, out } = self;
+                let Port { machines, sources, pairs } = self;
                 let there = machines[machine].as_mut().ok_or_else(|| absent(machine))?;
-                there.call(sources, pairs, out, call)?
+                there.call(sources, pairs, call)?
             }
         }))
     }
 }
 
 fn main() -> std::process::ExitCode {
-    let machines = [const { None }; 10];
-    callscript::main_of(&mut Port { machines, sources: HeldSources::default(), pairs: Pairs::new(), out: vec![] })
+    callscript::main_of(&mut Port::default())
 }

@@ -11,7 +11,7 @@
 // the Rust has no slots to lend, and reads no line that speaks of them
 #[allow(dead_code)]
 #[path = "../hosts/callscript.rs"]
-mod callscript;
+pub mod callscript;
 mod recordfile;
 
 use callscript::{Call, Fault, Host, Layer, Line, UNWRITTEN, Width, hash, hex};
@@ -337,10 +337,17 @@ impl Running {
 
 // ---- the host
 
-struct Oracle {
+pub struct Oracle {
     sources: Sources,
     files: Files,
     machines: [Machine; 10],
+}
+
+impl Default for Oracle {
+    fn default() -> Self {
+        let machines = std::array::from_fn(|_| Machine::Absent);
+        Oracle { sources: Sources::default(), files: Files::default(), machines }
+    }
 }
 
 impl Oracle {
@@ -449,6 +456,5 @@ impl Host for Oracle {
 fn main() -> std::process::ExitCode {
     // a panic of the Rust is an answer
     std::panic::set_hook(Box::new(|_| {}));
-    let machines = std::array::from_fn(|_| Machine::Absent);
-    callscript::main_of(&mut Oracle { sources: Sources::default(), files: Files::default(), machines })
+    callscript::main_of(&mut Oracle::default())
 }

@@ -54,8 +54,9 @@
    output that is too short is 8, files that are not in their form are 11.
 
    Nor does a host owe numbers that a call has answered: a page whose slot number is neither absent nor below `used` is
-   9 where its bytes are read or written (two pages may name one slot), and every flag, record, register and other number
-   is taken as it is. No number and no content makes a call fault or run on, as long as the host keeps what follows.
+   9 where its bytes are read or written (two pages may name one slot), and every flag, record, register and other
+   number is taken as it is. No number and no content makes a call fault or run on, as long as the host keeps what
+   follows.
 
        Pointers   A pointer is that of as many elements as its length says, or more, aligned for them, all of them the
                   host's to read and, without const, to write. No slice has more than PTRDIFF_MAX bytes. Where the

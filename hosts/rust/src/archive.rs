@@ -108,20 +108,6 @@ pub struct Lent<'a> {
     pub area: &'a mut [u8],
 }
 
-impl Lent<'_> {
-    fn seen(&self) -> Seen<'_> {
-        Seen { slots: self.slots, flags: self.flags, area: self.area }
-    }
-}
-
-/// The same storage, lent to a call that only looks at it.
-#[derive(Clone, Copy)]
-pub struct Seen<'a> {
-    pub slots: &'a [u16],
-    pub flags: &'a [u8],
-    pub area: &'a [u8],
-}
-
 /// The storage that a call of tracking is lent: a memory's, and the words of each page's record.
 pub struct Tracked<'a> {
     pub lent: Lent<'a>,
@@ -209,18 +195,18 @@ memories! {
     fn set_lr(Memory, u64) -> Memory;
 }
 
-/// A function that is handed the storage, with the words that follow it.
-macro_rules! hand {
-    ($storage:ident, $pointer:ident, $function:expr, $lent:expr $(, $word:expr)*) => {{
-        let $storage { slots, flags, area } = $lent;
-        // pointers and lengths are those of slices, and of no two that overlap where one is written to
+/// A function that is lent the storage, with the words that follow it.
+macro_rules! lend {
+    ($function:expr, $lent:expr $(, $word:expr)*) => {{
+        let Lent { slots, flags, area } = $lent;
+        // pointers and lengths are those of slices, and of no two that overlap
         unsafe {
             $function(
-                slots.$pointer(),
+                slots.as_mut_ptr(),
                 slots.len(),
-                flags.$pointer(),
+                flags.as_mut_ptr(),
                 flags.len(),
-                area.$pointer(),
+                area.as_mut_ptr(),
                 area.len()
                 $(, $word)*
             )
@@ -228,20 +214,10 @@ macro_rules! hand {
     }};
 }
 
-/// A function that is lent the storage, with the words that follow it.
-macro_rules! lend {
-    ($function:expr, $lent:expr $(, $word:expr)*) => { hand!(Lent, as_mut_ptr, $function, $lent $(, $word)*) };
-}
-
-/// A function that only looks at the storage, with the words that follow it.
-macro_rules! show {
-    ($function:expr, $seen:expr $(, $word:expr)*) => { hand!(Seen, as_ptr, $function, $seen $(, $word)*) };
-}
-
 macro_rules! loads {
     ($($call:ident)*) => {
         $(pub fn $call(&self, lent: Lent, memory: Memory, address: u64) -> Value {
-            seen::$call(self, lent.seen(), memory, address)
+            lend!((self.$call), lent, memory.size, address, memory.used)
         })*
     };
 }
@@ -285,7 +261,7 @@ impl Calls {
     }
 
     pub fn fetch_flag(&self, lent: Lent, memory: Memory, page: u64) -> Value {
-        seen::fetch_flag(self, lent.seen(), memory, page)
+        lend!((self.fetch_flag), lent, memory.size, page, memory.used)
     }
 
     pub fn set_flag(&self, lent: Lent, memory: Memory, page: u64, flag: u8) -> u32 {
@@ -314,12 +290,12 @@ impl Calls {
     }
 
     pub fn load_bytes(&self, lent: Lent, out: &mut [u8], memory: Memory, address: u64, size: u64) -> u32 {
-        seen::load_bytes(self, lent.seen(), out, memory, address, size)
+        lend!((self.load_bytes), lent, out.as_mut_ptr(), out.len(), memory.size, address, size, memory.used)
     }
 
     /// The value is the string's length.
     pub fn load_c_string(&self, lent: Lent, out: &mut [u8], memory: Memory, address: u64) -> Value {
-        seen::load_c_string(self, lent.seen(), out, memory, address)
+        lend!((self.load_c_string), lent, out.as_mut_ptr(), out.len(), memory.size, address, memory.used)
     }
 
     loads!(execute_load16 execute_load32 load8 load16 load32 load64);
@@ -374,7 +350,7 @@ mod lent {
 }
 
 pub fn check_permission(lent: Lent, memory: Memory, first: u64, last: u64, flag: u8) -> u32 {
-    seen::check_permission(lent.seen(), memory, first, last, flag)
+    lend!(lent::check_permission, lent, memory.size, first, last, flag, memory.used)
 }
 
 pub fn set_dirty(lent: Lent, memory: Memory, first: u64, last: u64) -> u32 {
@@ -447,7 +423,7 @@ pub fn mark_program(tracked: Tracked, actions: &[u64], memory: Memory, id: u64, 
 }
 
 pub fn page_record(tracked: Tracked, memory: Memory, page: u64) -> Recorded {
-    seen::page_record(tracked.lent.seen(), tracked.records, memory, page)
+    lend_tracked!(page_record, tracked, memory.size, page, memory.used)
 }
 
 // ---- snapshots
@@ -461,7 +437,7 @@ pub struct Files<'a> {
 
 /// The two outputs are those of the record file and of the page file.
 pub fn make_snapshot(tracked: Tracked, file: &mut [u8], pages: &mut [u8], machine: Machine) -> Made {
-    seen::make_snapshot(tracked.lent.seen(), tracked.records, file, pages, machine)
+    lend_tracked!(make_snapshot, tracked, file.as_mut_ptr(), file.len(), pages.as_mut_ptr(), pages.len(), machine)
 }
 
 pub fn resume(tracked: Tracked, sources: Sources, files: Files, machine: Machine) -> MachineAnswer {
@@ -484,9 +460,37 @@ pub fn resume(tracked: Tracked, sources: Sources, files: Files, machine: Machine
 
 // ---- calls that only look
 
-/// The calls that write to nothing but an output, over storage that is shared.
+/// The calls that write to nothing but an output, over storage that is shared. They have the same functions as those
+/// above, which are lent storage that nobody else holds.
 pub mod seen {
-    use super::{Calls, Machine, Made, Memory, Recorded, Seen, Value, lent};
+    use super::{Calls, Machine, Made, Memory, Recorded, Value, lent};
+
+    /// The storage that a call on a memory looks at: a slot number and a flag for each page, and the slots.
+    #[derive(Clone, Copy)]
+    pub struct Seen<'a> {
+        pub slots: &'a [u16],
+        pub flags: &'a [u8],
+        pub area: &'a [u8],
+    }
+
+    /// A function that looks at the storage, with the words that follow it. It takes no pointer that it could write to.
+    macro_rules! show {
+        ($function:expr, $seen:expr $(, $word:expr)*) => {{
+            let Seen { slots, flags, area } = $seen;
+            // pointers and lengths are those of slices, and an output overlaps none
+            unsafe {
+                $function(
+                    slots.as_ptr(),
+                    slots.len(),
+                    flags.as_ptr(),
+                    flags.len(),
+                    area.as_ptr(),
+                    area.len()
+                    $(, $word)*
+                )
+            }
+        }};
+    }
 
     macro_rules! loads {
         ($($call:ident)*) => {

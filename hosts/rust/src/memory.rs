@@ -1,4 +1,5 @@
-use crate::archive::{self, Calls, Fresh, Indices, Lent, SPARSE, Seen, Stored, Value, WXORX, seen};
+use crate::archive::seen::{self, Seen};
+use crate::archive::{self, Calls, Fresh, Indices, Lent, SPARSE, Stored, Value, WXORX};
 use crate::error::{Result, answer};
 use std::fmt;
 

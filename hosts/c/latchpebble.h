@@ -61,6 +61,8 @@
        Pointers   A pointer is that of as many elements as its length says, or more, aligned for them, all of them the
                   host's to read and, without const, to write. No slice has more than PTRDIFF_MAX bytes. Where the
                   length is 0 the pointer is not used: it may be NULL, or point anywhere.
+       Values     What is lent has been written before, as static storage, calloc or memset has it: what is proved is
+                  proved of bytes that have values.
        Overlap    A slice without const overlaps no other slice of the same call. Slices with const may overlap each
                   other. So bytes go from one place of a memory to another by way of a buffer that is not its area.
        Threads    Calls may be made at the same time where none of them writes what another is lent. There is no state

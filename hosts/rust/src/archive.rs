@@ -4,8 +4,8 @@
 //! slots in use after them. (Side by side, or in a struct, a caller copies both by one load, which waits for the
 //! store of the slots that the call before handed back.)
 //! A store hands back the slots then in use, on a refusal too: it may have taken some. A machine goes over whole, by
-//! value, and comes back whole. Nothing checks these declarations against the crate, so they keep its names and its
-//! order of parameters.
+//! value, and comes back whole. tools/header holds these declarations, and what each call here hands over, to the crate
+//! and to the compiled archive.
 
 /// What a memory keeps by value, beside the storage that is lent.
 #[repr(C)]
@@ -108,6 +108,20 @@ pub struct Lent<'a> {
     pub area: &'a mut [u8],
 }
 
+impl Lent<'_> {
+    fn seen(&self) -> Seen<'_> {
+        Seen { slots: self.slots, flags: self.flags, area: self.area }
+    }
+}
+
+/// The same storage, lent to a call that only looks at it.
+#[derive(Clone, Copy)]
+pub struct Seen<'a> {
+    pub slots: &'a [u16],
+    pub flags: &'a [u8],
+    pub area: &'a [u8],
+}
+
 /// The storage that a call of tracking is lent: a memory's, and the words of each page's record.
 pub struct Tracked<'a> {
     pub lent: Lent<'a>,
@@ -195,18 +209,18 @@ memories! {
     fn set_lr(Memory, u64) -> Memory;
 }
 
-/// A function that is lent the storage, with the words that follow it.
-macro_rules! lend {
-    ($function:expr, $lent:expr $(, $word:expr)*) => {{
-        let Lent { slots, flags, area } = $lent;
-        // pointers and lengths are those of slices, and of no two that overlap
+/// A function that is handed the storage, with the words that follow it.
+macro_rules! hand {
+    ($storage:ident, $pointer:ident, $function:expr, $lent:expr $(, $word:expr)*) => {{
+        let $storage { slots, flags, area } = $lent;
+        // pointers and lengths are those of slices, and of no two that overlap where one is written to
         unsafe {
             $function(
-                slots.as_mut_ptr(),
+                slots.$pointer(),
                 slots.len(),
-                flags.as_mut_ptr(),
+                flags.$pointer(),
                 flags.len(),
-                area.as_mut_ptr(),
+                area.$pointer(),
                 area.len()
                 $(, $word)*
             )
@@ -214,10 +228,20 @@ macro_rules! lend {
     }};
 }
 
+/// A function that is lent the storage, with the words that follow it.
+macro_rules! lend {
+    ($function:expr, $lent:expr $(, $word:expr)*) => { hand!(Lent, as_mut_ptr, $function, $lent $(, $word)*) };
+}
+
+/// A function that only looks at the storage, with the words that follow it.
+macro_rules! show {
+    ($function:expr, $seen:expr $(, $word:expr)*) => { hand!(Seen, as_ptr, $function, $seen $(, $word)*) };
+}
+
 macro_rules! loads {
     ($($call:ident)*) => {
         $(pub fn $call(&self, lent: Lent, memory: Memory, address: u64) -> Value {
-            lend!((self.$call), lent, memory.size, address, memory.used)
+            seen::$call(self, lent.seen(), memory, address)
         })*
     };
 }
@@ -261,7 +285,7 @@ impl Calls {
     }
 
     pub fn fetch_flag(&self, lent: Lent, memory: Memory, page: u64) -> Value {
-        lend!((self.fetch_flag), lent, memory.size, page, memory.used)
+        seen::fetch_flag(self, lent.seen(), memory, page)
     }
 
     pub fn set_flag(&self, lent: Lent, memory: Memory, page: u64, flag: u8) -> u32 {
@@ -290,12 +314,12 @@ impl Calls {
     }
 
     pub fn load_bytes(&self, lent: Lent, out: &mut [u8], memory: Memory, address: u64, size: u64) -> u32 {
-        lend!((self.load_bytes), lent, out.as_mut_ptr(), out.len(), memory.size, address, size, memory.used)
+        seen::load_bytes(self, lent.seen(), out, memory, address, size)
     }
 
     /// The value is the string's length.
     pub fn load_c_string(&self, lent: Lent, out: &mut [u8], memory: Memory, address: u64) -> Value {
-        lend!((self.load_c_string), lent, out.as_mut_ptr(), out.len(), memory.size, address, memory.used)
+        seen::load_c_string(self, lent.seen(), out, memory, address)
     }
 
     loads!(execute_load16 execute_load32 load8 load16 load32 load64);
@@ -350,7 +374,7 @@ mod lent {
 }
 
 pub fn check_permission(lent: Lent, memory: Memory, first: u64, last: u64, flag: u8) -> u32 {
-    lend!(lent::check_permission, lent, memory.size, first, last, flag, memory.used)
+    seen::check_permission(lent.seen(), memory, first, last, flag)
 }
 
 pub fn set_dirty(lent: Lent, memory: Memory, first: u64, last: u64) -> u32 {
@@ -423,7 +447,7 @@ pub fn mark_program(tracked: Tracked, actions: &[u64], memory: Memory, id: u64, 
 }
 
 pub fn page_record(tracked: Tracked, memory: Memory, page: u64) -> Recorded {
-    lend_tracked!(page_record, tracked, memory.size, page, memory.used)
+    seen::page_record(tracked.lent.seen(), tracked.records, memory, page)
 }
 
 // ---- snapshots
@@ -437,7 +461,7 @@ pub struct Files<'a> {
 
 /// The two outputs are those of the record file and of the page file.
 pub fn make_snapshot(tracked: Tracked, file: &mut [u8], pages: &mut [u8], machine: Machine) -> Made {
-    lend_tracked!(make_snapshot, tracked, file.as_mut_ptr(), file.len(), pages.as_mut_ptr(), pages.len(), machine)
+    seen::make_snapshot(tracked.lent.seen(), tracked.records, file, pages, machine)
 }
 
 pub fn resume(tracked: Tracked, sources: Sources, files: Files, machine: Machine) -> MachineAnswer {
@@ -460,37 +484,9 @@ pub fn resume(tracked: Tracked, sources: Sources, files: Files, machine: Machine
 
 // ---- calls that only look
 
-/// The calls that write to nothing but an output, over storage that is shared. They have the same functions as those
-/// above, which are lent storage that nobody else holds.
+/// The calls that write to nothing but an output, over storage that is shared.
 pub mod seen {
-    use super::{Calls, Machine, Made, Memory, Recorded, Value, lent};
-
-    /// The storage that a call on a memory looks at: a slot number and a flag for each page, and the slots.
-    #[derive(Clone, Copy)]
-    pub struct Seen<'a> {
-        pub slots: &'a [u16],
-        pub flags: &'a [u8],
-        pub area: &'a [u8],
-    }
-
-    /// A function that looks at the storage, with the words that follow it. It takes no pointer that it could write to.
-    macro_rules! show {
-        ($function:expr, $seen:expr $(, $word:expr)*) => {{
-            let Seen { slots, flags, area } = $seen;
-            // pointers and lengths are those of slices, and an output overlaps none
-            unsafe {
-                $function(
-                    slots.as_ptr(),
-                    slots.len(),
-                    flags.as_ptr(),
-                    flags.len(),
-                    area.as_ptr(),
-                    area.len()
-                    $(, $word)*
-                )
-            }
-        }};
-    }
+    use super::{Calls, Machine, Made, Memory, Recorded, Seen, Value, lent};
 
     macro_rules! loads {
         ($($call:ident)*) => {

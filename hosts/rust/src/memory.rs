@@ -1,5 +1,4 @@
-use crate::archive::seen::{self, Seen};
-use crate::archive::{self, Calls, Fresh, Indices, Lent, SPARSE, Stored, Value, WXORX};
+use crate::archive::{self, Calls, Fresh, Indices, Lent, SPARSE, Seen, Stored, Value, WXORX, seen};
 use crate::error::{Result, answer};
 use std::fmt;
 

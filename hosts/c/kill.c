@@ -1,14 +1,15 @@
-/* kill.c: ends a process at a chosen call, or makes that call fail. Loaded into it by LD_PRELOAD (Linux, a program linked to the system's libc).
+/* kill.c: ends a process at a chosen call, or makes that call fail. It is loaded by LD_PRELOAD, on Linux, into a
+   program that is linked to the system's libc.
 
    The calls below, which change the file system, bring it to disk, lock, open or close, are counted from 1 and made by
    system calls. From the environment:
 
        KILL_AT   the number of the chosen call; without it there is none
-       KILL_WAY  the process is killed (SIGKILL) `before` the call, `after` it, or, if it is a write, `half`: when half of its
-                 bytes are written; or it goes on, and the call is not made and fails: `error` (EIO; a close that fails has let
-                 go of its descriptor, as on Linux)
-       KILL_LOG  a file that gets a line for each call that was made: its number, its name, what it returned, what it asked
-                 for (`-` for nothing), and the path, or the two, that it was about */
+       KILL_WAY  the process is killed (SIGKILL) `before` the call, `after` it, or, if it is a write, `half`: when
+                 half of its bytes are written; or it goes on, and the call is not made and fails: `error` (EIO; a
+                 close that fails has let go of its descriptor, as on Linux)
+       KILL_LOG  a file that gets a line for each call that was made: its number, its name, what it returned, what it
+                 asked for (`-` for nothing), and the path, or the two, that it was about */
 
 #undef _FORTIFY_SOURCE
 #define _GNU_SOURCE
@@ -143,10 +144,10 @@ CALL(link, (const char *from, const char *to), (about_path(AT_FDCWD, from), abou
      AT_FDCWD, from, AT_FDCWD, to, 0)
 CALL(linkat, (int from_at, const char *from, int to_at, const char *to, int flags),
      (about_path(from_at, from), about_path(to_at, to)), "-", SYS_linkat, from_at, from, to_at, to, flags)
-CALL(rename, (const char *from, const char *to), (about_path(AT_FDCWD, from), about_path(AT_FDCWD, to)), "-", SYS_renameat2,
-     AT_FDCWD, from, AT_FDCWD, to, 0)
-CALL(renameat, (int from_at, const char *from, int to_at, const char *to), (about_path(from_at, from), about_path(to_at, to)),
-     "-", SYS_renameat2, from_at, from, to_at, to, 0)
+CALL(rename, (const char *from, const char *to), (about_path(AT_FDCWD, from), about_path(AT_FDCWD, to)), "-",
+     SYS_renameat2, AT_FDCWD, from, AT_FDCWD, to, 0)
+CALL(renameat, (int from_at, const char *from, int to_at, const char *to),
+     (about_path(from_at, from), about_path(to_at, to)), "-", SYS_renameat2, from_at, from, to_at, to, 0)
 CALL(renameat2, (int from_at, const char *from, int to_at, const char *to, unsigned flags),
      (about_path(from_at, from), about_path(to_at, to)), "-", SYS_renameat2, from_at, from, to_at, to, flags)
 CALL(truncate, (const char *path, off_t length), about_path(AT_FDCWD, path), "-", SYS_truncate, path, length)
@@ -182,8 +183,8 @@ static int opened(const char *name, int at, const char *path, int flags, va_list
 
 OPEN(open, (const char *path, int flags, ...), AT_FDCWD)
 OPEN(openat, (int at, const char *path, int flags, ...), at)
-CALL(creat, (const char *path, mode_t mode), about_path(AT_FDCWD, path), "create-or-truncate", SYS_openat, AT_FDCWD, path,
-     O_CREAT | O_WRONLY | O_TRUNC, mode)
+CALL(creat, (const char *path, mode_t mode), about_path(AT_FDCWD, path), "create-or-truncate", SYS_openat, AT_FDCWD,
+     path, O_CREAT | O_WRONLY | O_TRUNC, mode)
 
 /* ---- writes ---- */
 
@@ -238,8 +239,8 @@ ssize_t writev(int file, const struct iovec *parts, int count)
 #ifdef __GLIBC__
 OPEN(open64, (const char *path, int flags, ...), AT_FDCWD)
 OPEN(openat64, (int at, const char *path, int flags, ...), at)
-CALL(creat64, (const char *path, mode_t mode), about_path(AT_FDCWD, path), "create-or-truncate", SYS_openat, AT_FDCWD, path,
-     O_CREAT | O_WRONLY | O_TRUNC, mode)
+CALL(creat64, (const char *path, mode_t mode), about_path(AT_FDCWD, path), "create-or-truncate", SYS_openat, AT_FDCWD,
+     path, O_CREAT | O_WRONLY | O_TRUNC, mode)
 CALL(ftruncate64, (int file, off64_t length), about_file(file), "-", SYS_ftruncate, file, length)
 CALL(truncate64, (const char *path, off64_t length), about_path(AT_FDCWD, path), "-", SYS_truncate, path, length)
 ssize_t pwrite64(int file, const void *bytes, size_t length, off64_t offset)

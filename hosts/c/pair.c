@@ -21,6 +21,10 @@ static const char CURRENT_NEW[] = "current.new";
 static const char RECORDS[] = "records";
 static const char PAGES[] = "pages";
 
+/* What a text calls the pair's directory, and the one that it is in. */
+static const char HERE[] = "the directory";
+static const char ABOVE[] = "the directory above";
+
 /* What a pair's name begins with; the bytes of a whole name: this, the most digits of a number, a zero. */
 #define PREFIX "pair."
 enum { MOST_DIGITS = 20, NAME = sizeof PREFIX + MOST_DIGITS };
@@ -45,7 +49,7 @@ static int open_pair(const char *pair, int operation, char *text)
 {
     int at = open(pair, DIRECTORY);
     if (at < 0) {
-        failed(text, "open", pair);
+        failed(text, "open", HERE);
         return -1;
     }
     int locked;
@@ -53,7 +57,7 @@ static int open_pair(const char *pair, int operation, char *text)
         locked = flock(at, operation);
     while (locked != 0 && errno == EINTR);
     if (locked != 0) {
-        failed(text, "lock", pair);
+        failed(text, "lock", HERE);
         close(at);
         return -1;
     }
@@ -76,7 +80,7 @@ static bool current_number(int at, uint64_t *number, char *text)
     name[length] = '\0';
     if (strncmp(name, PREFIX, strlen(PREFIX)) == 0)
         *number = strtoull(name + strlen(PREFIX), NULL, 10);
-    /* the name is the one that the number gives: so no sign, no zero before the digits, nothing after them, no overflow */
+    /* the name is the one that the number gives: no sign, no zero before the digits, nothing after them, no overflow */
     char given[NAME];
     pair_name(given, *number);
     return (*number != 0 && strcmp(name, given) == 0) || refused(text, "current is not a link to pair.N");
@@ -88,8 +92,8 @@ static bool sync_parent(int at, char *text)
 {
     int parent = openat(at, "..", DIRECTORY);
     if (parent < 0)
-        return failed(text, "open", "the directory above");
-    bool done = fsync(parent) == 0 || failed(text, "sync", "the directory above");
+        return failed(text, "open", ABOVE);
+    bool done = fsync(parent) == 0 || failed(text, "sync", ABOVE);
     close(parent);
     return done;
 }
@@ -113,8 +117,8 @@ static bool remove_pair(int at, const char *name, char *text)
     return done && (unlinkat(at, name, AT_REMOVEDIR) == 0 || failed(text, "remove", name));
 }
 
-/* Removes every pair but `current`. A directory that is changed while it is read may not show all its names, so it is read
-   until there is nothing to remove. */
+/* Removes every pair but `current`. A directory that is changed while it is read may not show all its names, so it is
+   read until there is nothing to remove. */
 static bool sweep_pairs(int at, DIR *names, const char *current, char *text)
 {
     bool removed;
@@ -131,7 +135,7 @@ static bool sweep_pairs(int at, DIR *names, const char *current, char *text)
             removed = true;
         }
         if (errno != 0)
-            return failed(text, "list", "the directory");
+            return failed(text, "list", HERE);
     } while (removed);
     return true;
 }
@@ -144,7 +148,7 @@ static bool sweep(int at, const char *current, char *text)
     int again = openat(at, ".", DIRECTORY);
     DIR *names = again < 0 ? NULL : fdopendir(again);
     if (names == NULL) {
-        failed(text, "list", "the directory");
+        failed(text, "list", HERE);
         if (again >= 0)
             close(again);
         return false;
@@ -217,7 +221,7 @@ static enum pair_answer replace(int at, const struct pair_files *files, char *te
         return PAIR_FAILED;
     }
     if (fsync(at) != 0) {
-        failed(text, "sync", "the directory");
+        failed(text, "sync", HERE);
         return PAIR_FAILED;
     }
     if (renameat(at, CURRENT_NEW, at, CURRENT) != 0) {
@@ -225,7 +229,7 @@ static enum pair_answer replace(int at, const struct pair_files *files, char *te
         return PAIR_FAILED;
     }
     if (fsync(at) != 0) {
-        failed(text, "sync", "the directory");
+        failed(text, "sync", HERE);
         return PAIR_UNSURE;
     }
     return remove_pair(at, old, text) ? PAIR_DONE : PAIR_UNSURE;
@@ -238,7 +242,7 @@ enum pair_answer pair_write(const char *pair, const struct pair_files *files, ch
         return PAIR_FAILED;
     }
     if (mkdir(pair, 0777) != 0 && errno != EEXIST) {
-        failed(text, "make", pair);
+        failed(text, "make", HERE);
         return PAIR_FAILED;
     }
     int at = open_pair(pair, LOCK_EX, text);

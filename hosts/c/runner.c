@@ -1,15 +1,15 @@
-/* runner.c: an example host. It runs a laboratory's program over the round's readings, stops it when its cycles are spent,
-   and resumes it from two files, in another process or on another computer.
+/* runner.c: an example host. It runs a laboratory's program over the round's readings, stops it when its cycles are
+   spent, and resumes it from two files, in another process or on another computer.
 
        runner start  PROGRAM READINGS PAIR CYCLES
        runner resume PROGRAM READINGS PAIR CYCLES
 
-   PROGRAM is RISC-V code, READINGS text with a decimal number a line, PAIR the directory of the two files (pair.h), CYCLES
-   how many cycles are allowed this time. Each instruction costs one. Status 0: the program is done; 3: it was stopped and
-   PAIR is written; 1: a failure; 2: wrong arguments.
+   PROGRAM is RISC-V code, READINGS text with a decimal number a line, PAIR the directory of the two files (pair.h),
+   CYCLES how many cycles are allowed this time. Each instruction costs one. Status 0: the program is done; 3: it was
+   stopped and PAIR is written; 1: a failure; 2: wrong arguments.
 
-   A snapshot says which pages come from the sources, not what is in them: `resume` must be given the PROGRAM and READINGS
-   that `start` was given. Nothing here checks that. */
+   A snapshot says which pages come from the sources, not what is in them: `resume` must be given the PROGRAM and
+   READINGS that `start` was given. Nothing here checks that. */
 
 #include "latchpebble.h"
 #include "pair.h"
@@ -38,8 +38,8 @@ enum { A0 = 10, A1 = 11, A2 = 12 };
 
 /* ---- what is lent ----
 
-   All of the machine's storage, fixed here: no call allocates or keeps any. A slot for every page, so that no store is ever
-   refused for want of one. */
+   All of the machine's storage, fixed here: no call allocates or keeps any. A slot for every page, so that no store
+   is ever refused for want of one. */
 static uint16_t slots[PAGES];
 static uint8_t flags[PAGES];
 static uint8_t area[PAGES * LATCHPEBBLE_PAGE];
@@ -131,30 +131,30 @@ static void make_fresh(void)
     look("machine_fresh", answer.number);
 }
 
-/* The program goes into frozen, executable pages, and its whole pages are marked as coming from item 1; the readings come by
-   way of a context store, which marks their whole pages itself. A page that the program then writes to is dirty, and a
-   snapshot has its bytes. */
+/* The program goes into frozen, executable pages, and its whole pages are marked as coming from item 1; the readings
+   come by way of a context store, which marks their whole pages itself. A page that the program then writes to is
+   dirty, and a snapshot has its bytes. */
 static void load_program(void)
 {
     uint64_t length = directory[2];
     uint64_t size = latchpebble_round_page_up(length);
     latchpebble_stored filled =
-        latchpebble_wxorx_init_pages(MEMORY, sources, (size_t)length, machine.memory.size, PROGRAM_AT, size, PROGRAM_FLAGS,
-                                     0, machine.memory.used);
+        latchpebble_wxorx_init_pages(MEMORY, sources, (size_t)length, machine.memory.size, PROGRAM_AT, size,
+                                     PROGRAM_FLAGS, 0, machine.memory.used);
     machine.memory.used = filled.used;
     look("wxorx_init_pages", filled.number);
     /* a loading action: address, size, flags, source start, source end, lead */
     const uint64_t action[LATCHPEBBLE_ACTION_WORDS] = {PROGRAM_AT, size, PROGRAM_FLAGS, 0, length, 0};
-    look("mark_program", latchpebble_mark_program(MEMORY, RECORDS, action, LENGTH(action), machine.memory.size, PROGRAM_ITEM,
-                                                  0, machine.memory.used));
+    look("mark_program", latchpebble_mark_program(MEMORY, RECORDS, action, LENGTH(action), machine.memory.size,
+                                                  PROGRAM_ITEM, 0, machine.memory.used));
 }
 
 static void store_readings(void)
 {
     uint64_t length = directory[LATCHPEBBLE_ENTRY_WORDS + 2];
     latchpebble_context_stored stored =
-        latchpebble_context_store_bytes(MEMORY, RECORDS, SOURCES, machine.memory.size, READINGS_AT, READINGS_ITEM, 0, length,
-                                        SIZE_WORD_AT, machine.memory.used);
+        latchpebble_context_store_bytes(MEMORY, RECORDS, SOURCES, machine.memory.size, READINGS_AT, READINGS_ITEM, 0,
+                                        length, SIZE_WORD_AT, machine.memory.used);
     machine.memory.used = stored.used;
     look("context_store_bytes", stored.number);
 }
@@ -190,8 +190,9 @@ static void stop(const char *pair)
     look("make_snapshot", made.number);
     files.records_len = (size_t)made.records * LATCHPEBBLE_RECORD_BYTES;
     files.pages_len = (size_t)made.pages * LATCHPEBBLE_PAGE;
-    if (pair_write(pair, &files, text) != PAIR_DONE)
-        fail("%s: %s", pair, text);
+    enum pair_answer answer = pair_write(pair, &files, text);
+    if (answer != PAIR_DONE)
+        fail("%s: %s%s", pair, answer == PAIR_UNSURE ? "the new pair is current, but: " : "", text);
 }
 
 /* ---- instructions: the kinds that the example's program is made of ---- */
@@ -225,7 +226,8 @@ static bool step(void)
     bool running = true;
 
     if (kind == BEQ) {
-        uint64_t offset = bits(word, 31, 1) << 12 | bits(word, 7, 1) << 11 | bits(word, 25, 6) << 5 | bits(word, 8, 4) << 1;
+        uint64_t offset =
+            bits(word, 31, 1) << 12 | bits(word, 7, 1) << 11 | bits(word, 25, 6) << 5 | bits(word, 8, 4) << 1;
         if (get(rs1) == get(rs2))
             next = pc + sign_extended(offset, 13);
     } else if (kind == LD) {
@@ -261,8 +263,8 @@ static _Noreturn void usage(void)
 {
     fputs("usage: runner start  PROGRAM READINGS PAIR CYCLES\n"
           "       runner resume PROGRAM READINGS PAIR CYCLES\n"
-          "Runs PROGRAM (RISC-V code) over READINGS (a decimal number a line) for at most CYCLES cycles. When they are\n"
-          "spent, the machine's snapshot is written into the directory PAIR, from which resume goes on.\n"
+          "Runs PROGRAM (RISC-V code) over READINGS (a decimal number a line) for at most CYCLES cycles. When they\n"
+          "are spent, the machine's snapshot is written into the directory PAIR, from which resume goes on.\n"
           "Status 0: done; 1: a failure; 2: wrong arguments; 3: stopped.\n",
           stderr);
     exit(USAGE);

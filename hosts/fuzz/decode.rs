@@ -1,4 +1,4 @@
-//! Bytes to a call script, and back.
+//! Bytes to a call script.
 //!
 //! Every row of bytes is a script, and nearly every one a script whose lines all ask something of a machine that is
 //! there: what is read past the end is 0, a machine that isn't there is made fresh first, and numbers lie mostly close to
@@ -15,7 +15,7 @@ pub const MAXIMUM: u64 = 4_194_304;
 const MOST_SLOTS: u64 = 1100;
 const MACHINES: usize = 4;
 /// From here on machines may leave the domain.
-const FREE: usize = 2;
+pub const FREE: usize = 2;
 /// The most lines that are decoded, and the most bytes that all data of a script has.
 const MOST_LINES: usize = 64;
 const MOST_DATA: u64 = 160_000;
@@ -23,7 +23,7 @@ const MOST_DATA: u64 = 160_000;
 const MOST_WORD: u64 = 24_600;
 const MOST_ROOM: u64 = 20_000;
 /// The longest row of hex digits in bytes.
-const MOST_HEX: usize = 2048;
+pub const MOST_HEX: usize = 2048;
 /// A record file's records: the bytes of each, the words of each, and the most that there are.
 const RECORD: usize = 48;
 const MOST_RECORDS: u64 = 1_033;
@@ -34,8 +34,26 @@ const REGISTERS: u64 = 32;
 /// Of files: machines that stay in the domain write and read the first two.
 const NAMES: [&str; 4] = ["a", "b", "c", "d"];
 
+/// The first bytes of numbers and of data, each up to the next; and the kind of files that are bytes as they are.
+pub mod tag {
+    pub const NEAR_PAGE: u8 = 0x40;
+    pub const NEAR_NAMED: u8 = 0x60;
+    pub const NEAR_END: u8 = 0x80;
+    pub const SHORT: u8 = 0xa0;
+    pub const POWER: u8 = 0xb0;
+    pub const REST: u8 = 0xb8;
+    pub const PAGES: u8 = 0xd0;
+    pub const WHOLE: u8 = 0xf0;
+
+    pub const LONG: u8 = 64;
+    pub const REPEATED: u8 = 96;
+    pub const GENERATED: u8 = 160;
+
+    pub const RAW: u8 = 0;
+}
+
 /// Numbers that rules speak of.
-const NAMED: [u64; 16] = [
+pub const NAMED: [u64; 16] = [
     0,
     MAXIMUM,
     u64::MAX,
@@ -76,7 +94,7 @@ const ITEMS: [&str; 2] = ["source 7 gen:4:10000", "source 8 gen:5:8192"];
 
 /// The words of a line after its head.
 #[derive(Clone, Copy, PartialEq)]
-enum Operand {
+pub enum Operand {
     Number,
     /// up to 255
     Byte,
@@ -110,7 +128,7 @@ use Operand::*;
 
 /// What a line begins with.
 #[derive(Clone, Copy, PartialEq)]
-enum Head {
+pub enum Head {
     /// its word
     Plain,
     /// its word, and the machine
@@ -122,11 +140,11 @@ enum Head {
 }
 
 /// A kind of line: how often, in 256, and what it is made of.
-struct Kind {
-    weight: u8,
-    head: Head,
-    word: &'static str,
-    operands: &'static [Operand],
+pub struct Kind {
+    pub weight: u8,
+    pub head: Head,
+    pub word: &'static str,
+    pub operands: &'static [Operand],
 }
 
 const fn kind(weight: u8, head: Head, word: &'static str, operands: &'static [Operand]) -> Kind {
@@ -134,7 +152,7 @@ const fn kind(weight: u8, head: Head, word: &'static str, operands: &'static [Op
 }
 
 /// The weights' sum is 256.
-const KINDS: [Kind; 50] = [
+pub const KINDS: [Kind; 50] = [
     kind(6, Head::Plain, "source", &[Id, Data]),
     kind(4, Head::Plain, "entry", &[Id, Number, Number]),
     kind(10, Head::Machine, "fresh", &[Size, Slots, Version, Number]),
@@ -417,19 +435,21 @@ impl<'a> Decoder<'a> {
         let low = u64::from(tag & 31);
         let size = self.shapes[machine].map_or(0, |shape| shape.size);
         let number = match tag {
-            0..NEAR_PAGE => tag.into(),
-            NEAR_PAGE..NEAR_NAMED => self.near(low * PAGE),
-            NEAR_NAMED..NEAR_END => self.near(NAMED[low as usize % NAMED.len()]),
-            NEAR_END..SHORT => self.near(size.wrapping_sub(low % 8 * PAGE)),
-            SHORT..POWER => self.short().into(),
-            POWER..REST => {
+            0..tag::NEAR_PAGE => tag.into(),
+            tag::NEAR_PAGE..tag::NEAR_NAMED => self.near(low * PAGE),
+            tag::NEAR_NAMED..tag::NEAR_END => self.near(NAMED[low as usize % NAMED.len()]),
+            tag::NEAR_END..tag::SHORT => self.near(size.wrapping_sub(low % 8 * PAGE)),
+            tag::SHORT..tag::POWER => self.short().into(),
+            tag::POWER..tag::REST => {
                 let bits = self.byte();
                 (1u64 << (bits & 63)).wrapping_sub((bits >> 6).into())
             }
             // what the number before leaves up to a bound
-            REST..PAGES => self.near([size, MAXIMUM, 0, PAGE][usize::from(tag - REST) % 4].wrapping_sub(self.before)),
-            PAGES..WHOLE => u64::from(tag - PAGES) * PAGE,
-            WHOLE.. => u64::from_le_bytes(std::array::from_fn(|_| self.byte())),
+            tag::REST..tag::PAGES => {
+                self.near([size, MAXIMUM, 0, PAGE][usize::from(tag - tag::REST) % 4].wrapping_sub(self.before))
+            }
+            tag::PAGES..tag::WHOLE => u64::from(tag - tag::PAGES) * PAGE,
+            tag::WHOLE.. => u64::from_le_bytes(std::array::from_fn(|_| self.byte())),
         };
         self.before = number;
         number
@@ -479,19 +499,19 @@ impl<'a> Decoder<'a> {
                 let count = self.some(tag.into());
                 hex((0..count).map(|_| self.byte()))
             }
-            LONG..96 => {
+            tag::LONG..96 => {
                 let wanted = usize::from(self.short()) % MOST_HEX;
                 let count = self.some(wanted as u64);
                 hex((0..count).map(|_| self.byte()))
             }
-            REPEATED..160 => {
+            tag::REPEATED..160 => {
                 let byte = self.byte();
                 let wanted = self.number(0) % MOST_WORD;
                 format!("rep:{byte:02x}:{}", self.some(wanted))
             }
-            GENERATED.. => {
+            tag::GENERATED.. => {
                 let wanted = self.number(0) % MOST_WORD;
-                format!("gen:{}:{}", tag - GENERATED, self.some(wanted))
+                format!("gen:{}:{}", tag - tag::GENERATED, self.some(wanted))
             }
         }
     }
@@ -499,7 +519,7 @@ impl<'a> Decoder<'a> {
     /// Bytes as they are; records of the form, made here; or a pair of before with some bytes changed.
     fn files(&mut self, shown: impl FnOnce(&str) -> Option<Shown>) -> String {
         match self.byte() {
-            RAW..16 => format!("{} {}", self.data(), self.data()),
+            tag::RAW..16 => format!("{} {}", self.data(), self.data()),
             16..144 => {
                 let (records, pages) = self.records();
                 self.changed(records, pages)
@@ -592,20 +612,6 @@ impl<'a> Decoder<'a> {
     }
 }
 
-// tags of numbers and of data, and the kind of files that are bytes as they are
-const NEAR_PAGE: u8 = 0x40;
-const NEAR_NAMED: u8 = 0x60;
-const NEAR_END: u8 = 0x80;
-const SHORT: u8 = 0xa0;
-const POWER: u8 = 0xb0;
-const REST: u8 = 0xb8;
-const PAGES: u8 = 0xd0;
-const WHOLE: u8 = 0xf0;
-const LONG: u8 = 64;
-const REPEATED: u8 = 96;
-const GENERATED: u8 = 160;
-const RAW: u8 = 0;
-
 fn kind_of(byte: u8) -> &'static Kind {
     let mut left = byte;
     for kind in &KINDS {
@@ -620,172 +626,4 @@ fn kind_of(byte: u8) -> &'static Kind {
 fn hex(bytes: impl Iterator<Item = u8>) -> String {
     let digits: String = bytes.map(|byte| format!("{byte:02x}")).collect();
     if digits.is_empty() { "-".into() } else { digits }
-}
-
-// ---- back
-
-/// Bytes whose script is like this one: line by line the same call on a machine of the same parity, with the same
-/// numbers; lines that can't be made are left out. Scripts that lend wrong storage go to the machines that may leave the
-/// domain.
-pub fn encoded(script: &str) -> Vec<u8> {
-    let lines = || script.lines().map(|line| line.split_ascii_whitespace().collect::<Vec<_>>());
-    let few = |words: &[&str]| match *words {
-        ["fresh", _, size, slots, ..] => slots.parse::<u64>().ok() < size.parse::<u64>().ok().map(|size| size / PAGE),
-        [first, ..] => matches!(first, "lend" | "slot" | "used"),
-        [] => false,
-    };
-    let free = lines().any(|words| few(&words));
-    let mut bytes = vec![4];
-    for words in lines() {
-        bytes.extend(encoded_line(&words, free).unwrap_or_default());
-    }
-    bytes
-}
-
-fn encoded_line(words: &[&str], free: bool) -> Option<Vec<u8>> {
-    let (first, rest) = words.split_first()?;
-    let (name, machine, rest) = match first.parse::<u8>() {
-        Ok(machine) => (*rest.first()?, machine, &rest[1..]),
-        Err(_) if matches!(*first, "fresh" | "lend" | "slot" | "used") => {
-            (*first, rest.first()?.parse().ok()?, &rest[1..])
-        }
-        Err(_) => (*first, 0, rest),
-    };
-    let layer = if name.starts_with("s.") { 4 } else { 0 };
-    let name = name.trim_start_matches("s.").trim_start_matches("w.");
-    let at = KINDS.iter().position(|kind| kind.word == name)?;
-    let kind = &KINDS[at];
-    let mut bytes = vec![KINDS[..at].iter().map(|kind| kind.weight).sum()];
-    if kind.head != Head::Plain {
-        bytes.push(machine % 2 | if free { FREE as u8 } else { 0 } | layer);
-    }
-    let mut rest = rest.iter();
-    for operand in kind.operands {
-        let mut word = || rest.next().copied();
-        match operand {
-            Number => put_number(&mut bytes, word()?.parse().ok()?),
-            Byte => bytes.push(word()?.parse().ok()?),
-            Flag => put_flag(&mut bytes, word()?.parse().ok()?),
-            Short => bytes.extend(word()?.parse::<u16>().ok()?.to_le_bytes()),
-            Id => match word()?.parse().ok()? {
-                id @ 7..10 => bytes.push(id as u8 - 7),
-                id => {
-                    bytes.push(240);
-                    put_number(&mut bytes, id);
-                }
-            },
-            Read | Written | Given => bytes.push(word()?.bytes().next_back()? % 4),
-            Data => put_data(&mut bytes, word()?)?,
-            Files => {
-                bytes.push(RAW);
-                put_data(&mut bytes, word()?)?;
-                put_data(&mut bytes, word()?)?;
-            }
-            Size => {
-                bytes.push(224);
-                put_number(&mut bytes, word()?.parse().ok()?);
-            }
-            Slots => match word()?.parse().ok()? {
-                _ if !free => bytes.push(0),
-                slots @ 0..8 => bytes.push(128 + slots as u8),
-                slots => {
-                    bytes.push(224);
-                    put_number(&mut bytes, slots);
-                }
-            },
-            Version => match word()?.parse().ok()? {
-                version @ 0..3 => bytes.push(version as u8),
-                version => {
-                    bytes.push(250);
-                    put_number(&mut bytes, version);
-                }
-            },
-            Lengths => match word() {
-                None => bytes.push(0),
-                Some(length) => {
-                    bytes.extend([1, 224]);
-                    put_number(&mut bytes, length.parse().ok()?);
-                    for _ in 0..3 {
-                        bytes.push(224);
-                        put_number(&mut bytes, word()?.parse().ok()?);
-                    }
-                }
-            },
-            Room => {
-                bytes.push(200);
-                put_number(&mut bytes, word()?.parse().ok()?);
-            }
-            RecordRoom | PageRoom => {
-                bytes.push(224);
-                put_number(&mut bytes, word()?.parse().ok()?);
-            }
-            Actions => {
-                let numbers: Vec<u64> = rest.by_ref().map_while(|word| word.parse().ok()).collect();
-                let count = (numbers.len() / 6).min(3);
-                bytes.push(count as u8);
-                for (i, number) in numbers[..6 * count].iter().enumerate() {
-                    match i % 6 {
-                        2 => put_flag(&mut bytes, *number as u8),
-                        _ => put_number(&mut bytes, *number),
-                    }
-                }
-            }
-        }
-    }
-    Some(bytes)
-}
-
-fn put_flag(bytes: &mut Vec<u8>, flag: u8) {
-    match flag {
-        0..8 => bytes.push(flag),
-        _ => bytes.extend([192, flag]),
-    }
-}
-
-fn put_number(bytes: &mut Vec<u8>, n: u64) {
-    let by = |base: u64| i8::try_from(n.wrapping_sub(base) as i64).ok();
-    let page = n.wrapping_add(PAGE / 2) / PAGE;
-    if n < NEAR_PAGE.into() {
-        bytes.push(n as u8);
-    } else if n.is_multiple_of(PAGE) && n / PAGE < (WHOLE - PAGES).into() {
-        bytes.push(PAGES + (n / PAGE) as u8);
-    } else if let (0..32, Some(by)) = (page, by(page * PAGE)) {
-        bytes.extend([NEAR_PAGE + page as u8, by as u8]);
-    } else if let Some((i, by)) = NAMED.iter().enumerate().find_map(|(i, named)| Some((i, by(*named)?))) {
-        bytes.extend([NEAR_NAMED + i as u8, by as u8]);
-    } else if let Ok(short) = u16::try_from(n) {
-        bytes.push(SHORT);
-        bytes.extend(short.to_le_bytes());
-    } else {
-        bytes.push(WHOLE);
-        bytes.extend(n.to_le_bytes());
-    }
-}
-
-fn put_data(bytes: &mut Vec<u8>, word: &str) -> Option<()> {
-    match word.split(':').collect::<Vec<_>>()[..] {
-        ["rep", byte, count] => {
-            bytes.extend([REPEATED, u8::from_str_radix(byte, 16).ok()?]);
-            put_number(bytes, count.parse().ok()?);
-        }
-        ["gen", seed, count] => {
-            bytes.push(GENERATED + (seed.parse::<u64>().ok()? % 96) as u8);
-            put_number(bytes, count.parse().ok()?);
-        }
-        [digits] => {
-            let data = crate::encode::from_hex(digits)?;
-            match data.len() {
-                count @ 0..64 => bytes.push(count as u8),
-                count => {
-                    bytes.push(LONG);
-                    bytes.extend(
-                        u16::try_from(count).ok().filter(|count| usize::from(*count) < MOST_HEX)?.to_le_bytes(),
-                    );
-                }
-            }
-            bytes.extend(data);
-        }
-        _ => return None,
-    }
-    Some(())
 }

@@ -35,7 +35,10 @@ extern "C" fn print() {
 /// `fuzz run BLOCKS ..`: the list of the archive's blocks, and libFuzzer's words.
 pub fn main(blocks: &str, words: &[&str]) -> Result<(), ExitCode> {
     let c_string = |word: &str| CString::new(word).expect("an argument has no zero byte");
-    let mut held: Vec<CString> = std::iter::once("fuzz").chain(words.iter().copied()).map(c_string).collect();
+    // the command that libFuzzer runs where it wants another process of this program (-merge=1)
+    let this = std::env::current_exe().map_or("fuzz".into(), |path| path.display().to_string());
+    let this = format!("{this} run {blocks}");
+    let mut held: Vec<CString> = std::iter::once(&this[..]).chain(words.iter().copied()).map(c_string).collect();
     let mut words: Vec<*mut c_char> = held.iter_mut().map(|word| word.as_ptr().cast_mut()).collect();
     let mut count = words.len() as c_int;
     words.push(std::ptr::null_mut());

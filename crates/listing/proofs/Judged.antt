@@ -36,13 +36,13 @@ never : (b : Bool) (pages : ℕ) → cond b (code.Needs pages) code.Beyond ≡ c
 never true pages e = let z : _≡_ {A = ℕ} 0 1 = cc in omega arith
 never false pages e = let z : _≡_ {A = ℕ} 0 1 = cc in omega arith
 
-listed-malformed : (x : Form) (rs : List Record) → capped x ≡ code.Malformed → listed x rs ≡ line letterE (11 ∷ [])
-listed-malformed malformed rs e = refl
-listed-malformed (needs pages) rs e = absurd (never (ltb pages (2 ^ 64)) pages e)
+listed-malformed : (x : Form) (text : List ℕ) → capped x ≡ code.Malformed → listed x text ≡ line letterE (11 ∷ [])
+listed-malformed malformed text e = refl
+listed-malformed (needs pages) text e = absurd (never (ltb pages (2 ^ 64)) pages e)
 
-listed-formed : (x : Form) (rs : List Record) → Formed (capped x) → listed x rs ≡ lines rs
-listed-formed malformed rs t = absurd (not-malformed t)
-listed-formed (needs pages) rs t = refl
+listed-formed : (x : Form) (text : List ℕ) → Formed (capped x) → listed x text ≡ text
+listed-formed malformed text t = absurd (not-malformed t)
+listed-formed (needs pages) text t = refl
 
 few-formed : (a b c : Bool) (x : Form) → Formed (capped (cond a (cond b (cond c x malformed) malformed) malformed)) → c ≡ true
 few-formed true true true x t = refl
@@ -53,17 +53,15 @@ few-formed false b c x t = absurd (not-malformed t)
 -- ---- the text of a file
 
 module _ (file : List ℕ) (f : code-form.Form) (e : f ≡ capped (judged file)) where
-  text-malformed : f ≡ code.Malformed → listing file ≡ line letterE (11 ∷ [])
-  unfolding listing
-  text-malformed h = listed-malformed (judged file) (recordsIn file) (sym e ∙ h)
+  pub text-malformed : (text : List ℕ) → f ≡ code.Malformed → listed (judged file) text ≡ line letterE (11 ∷ [])
+  text-malformed text h = listed-malformed (judged file) text (sym e ∙ h)
 
   module _ (t : Formed f) where
     formed : Formed (capped (judged file))
     formed = rw e at t
 
-    text-formed : listing file ≡ lines (recordsIn file)
-    unfolding listing
-    text-formed = listed-formed (judged file) (recordsIn file) formed
+    pub text-formed : (text : List ℕ) → listed (judged file) text ≡ text
+    text-formed text = listed-formed (judged file) text formed
 
     pub formed-few : countIn file ≤ mostRecords
     unfolding judged
@@ -86,11 +84,13 @@ module _ (file s t : List ℕ) (f : code-form.Form) (end : ℕ) (e : f ≡ cappe
   -- only `E 11`
   pub told-malformed : f ≡ code.Malformed → t ≡ written s 0 (line letterE (11 ∷ [])) → end ≡ 0 + length (line letterE (11 ∷ []))
       → output 0 end t ≡ laid s (listInto file (length s))
-  told-malformed h w q = rw (into file s room, text-malformed file f e h, w, q, zero-add)
+  unfolding listing
+  told-malformed h w q = rw (into file s room, text-malformed file f e (lines (recordsIn file)) h, w, q, zero-add)
 
   pub told-formed : Formed f → t ≡ written s 0 (lines (recordsIn file)) → end ≡ length (lines (recordsIn file))
       → output 0 end t ≡ laid s (listInto file (length s))
-  told-formed h w q = rw (into file s room, text-formed file f e h, w, q)
+  unfolding listing
+  told-formed h w q = rw (into file s room, text-formed file f e h (lines (recordsIn file)), w, q)
 
 -- the text lies inside the output
 pub inside-malformed : (s t : List ℕ) (end : ℕ) → mostText ≤ length s → t ≡ written s 0 (line letterE (11 ∷ []))

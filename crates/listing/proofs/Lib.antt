@@ -1,4 +1,4 @@
--- What is proved of listings.
+-- What is proved of listings and maps.
 pub mod Digits
 pub mod ReadBack
 pub mod Spaced
@@ -7,3 +7,8 @@ pub mod Judged
 pub mod Printed
 pub mod Once
 pub mod Examples
+pub mod Fixed
+pub mod Covered
+pub mod Counted
+pub mod Tiled
+pub mod Drawn

@@ -53,10 +53,10 @@ unfoldable pub lines : List Record → List ℕ
 lines [] = []
 lines (r ∷ rs) = lineOf r ++ lines rs
 
--- "takes the page file to be of the needed length, and prints ..; or only `E 11`"
-abbrev pub listed : Form → List Record → List ℕ
-listed malformed rs = line letterE (11 ∷ [])
-listed (needs pages) rs = lines rs
+-- "takes the page file to be of the needed length, and prints ..; or only `E 11`": the text of a file in the form, or that
+abbrev pub listed : Form → List ℕ → List ℕ
+listed malformed text = line letterE (11 ∷ [])
+listed (needs pages) text = text
 
 -- the most numbers of a line: "words 1 to 5"
 abbrev pub mostNumbers : ℕ
@@ -74,7 +74,7 @@ mostText = mostRecords * mostLine
 
 -- the text of a record file
 unfoldable pub listing : List ℕ → List ℕ
-listing file = listed (judged file) (recordsIn file)
+listing file = listed (judged file) (lines (recordsIn file))
 
 -- what a call answered, and the whole output that it left
 pub record Output : Type 0 where

@@ -1,14 +1,23 @@
-// The text that `snaplist` prints of a record file.
+// What an operator reads of a record file: the text that `snaplist` prints, and the map that `snapmap` draws.
 //
-// Document 01, "Snapshot and resume", the paragraph on `snaplist`.
+// Document 01, "Snapshot and resume", the paragraph on `snaplist`. The map is the port's own.
 //
 //   lib        a file's text, into a lent output
 //   lines      the line of a record, and the lines of all records
+//   map        a file's map, into a lent output
+//   tiles      the tile of a page, and the tiles of all pages
+//   pages      what a file says of a page, and how many pages it says that of
+//   forms      texts with gaps for numbers
 //   decimals   a number's digits
 //
-// What the text is, is `listing` (specs/Listing.antt); Session A's is proofs/Examples.antt.
+// What the text is, is `listing` (specs/Listing.antt), what the map is, `map` (specs/Map.antt); Session A's text is
+// proofs/Examples.antt.
 mod decimals;
+mod forms;
 mod lines;
+pub mod map;
+mod pages;
+mod tiles;
 
 ghost use mathlib.Core.Path.{_≡_};
 ghost use Prim.Native.Nat.{_≤_};
@@ -26,6 +35,9 @@ pub const MOST_LINE: usize = 1 + MOST_NUMBERS * (1 + MOST_DIGITS) + 1;
 
 // The most bytes of a file's text.
 pub const MOST_TEXT: usize = MOST_RECORDS * MOST_LINE;
+
+// The most pages of a machine.
+pub const MOST_PAGES: u64 = 1024;
 
 // What a listing answers: its outcome, and the size of the text.
 pub struct Listed {

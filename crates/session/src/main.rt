@@ -429,7 +429,15 @@ fn hand_over(
     );
 }
 
-fn main() {
+fn usage() {
+    io::write_all(
+        2,
+        b"usage: session\n\
+          Tells document 01's Session A: a machine that is stopped and goes on elsewhere. It takes no argument.\n",
+    );
+}
+
+fn tell() {
     let sources = readings();
     let directory = [ITEM, 0, ITEM_BYTES as u64];
     let mut slots = [0u16; PAGES];
@@ -445,4 +453,12 @@ fn main() {
         &sources,
     );
     hand_over(&slots, &flags, &area, &records, &directory, &sources, one);
+}
+
+fn main() {
+    if 1 < os::arg_count() {
+        usage();
+        return;
+    }
+    tell();
 }

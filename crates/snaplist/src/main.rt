@@ -1,11 +1,13 @@
 // snaplist: lists the record file on standard input.
 //
-// Document 01, "Snapshot and resume", the paragraph on `snaplist`. The text is `listing`'s; the program reads and writes.
+// Document 01, "Snapshot and resume", the paragraph on `snaplist`. The text is `listing`'s; the program reads and writes. It
+// takes no argument: given one it says how it is used, and does nothing else.
 ghost use mathlib.Core.Path.{_≡_};
 ghost use Prim.Native.Nat.{_≤_};
 ghost use lib.ListN.{length, take};
 ghost use Rattle.io.specs.Counts.{Counts};
 ghost use Rattle.listing.specs.Listing.{listing, mostText};
+use libc::STDERR_FILENO;
 use libc::STDIN_FILENO;
 use libc::STDOUT_FILENO;
 use listing::MOST_TEXT;
@@ -24,10 +26,26 @@ fn put_text(file: &[u8], text: &mut [u8]) -> usize
     listing::list(file, text).size
 }
 
-fn main() {
+fn usage() {
+    io::write_all(
+        STDERR_FILENO,
+        b"usage: snaplist < RECORDS\n\
+          Lists the record file of a snapshot: M, S and D lines, or only E 11 where it is not in the form.\n",
+    );
+}
+
+fn list_input() {
     let mut file = [0u8; MOST_READ];
     let mut text = [0u8; MOST_TEXT];
     let count = io::read_full(STDIN_FILENO, &mut file);
     let size = put_text(&file[..count], &mut text);
     io::write_all(STDOUT_FILENO, &text[..size]);
+}
+
+fn main() {
+    if 1 < os::arg_count() {
+        usage();
+        return;
+    }
+    list_input();
 }

@@ -32,8 +32,10 @@ mod sides;
 #[path = "bench/snapshots.rs"]
 mod snapshots;
 
+type Part = (&'static str, fn(&rounds::Cases));
+
 /// The parts, each for a process of its own: what one leaves in the allocator is not another's.
-const PARTS: [(&str, fn(&rounds::Cases)); 6] = [
+const PARTS: [Part; 6] = [
     ("memories", memories::time),
     ("machines", machines::time),
     ("contexts", contexts::time),

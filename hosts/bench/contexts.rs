@@ -2,7 +2,7 @@
 
 use crate::archive;
 use crate::rounds::{CALLS, Cases, Told, alike, best_of, calls_of, plain_round, race, round};
-use crate::sides::{Both, EXECUTABLE, HeldSources, ITEM, PAGE, PAGES, new_machine};
+use crate::sides::{Both, EXECUTABLE, HeldSources, ITEM, PAGE, PAGES, block, new_machine};
 use ckb_vm::elf::{LoadingAction, ProgramMetadata};
 use std::hint::black_box;
 use std::ptr;
@@ -22,12 +22,12 @@ const ITEMS: [usize; 3] = [1, 16, 256];
 pub fn store_bytes(case: &str, both: &mut Both, sources: HeldSources, address: usize, length: usize) -> [f64; 3] {
     let Both { core, context, port, .. } = both;
     let (at, size, place) = (black_box(address as u64), black_box(length as u64), black_box(0));
-    let (from, to) = (sources.item().as_ptr(), black_box(port.area[address..].as_mut_ptr()));
+    let (from, to) = (sources.item().as_ptr(), black_box(block(PAGE + length)[address % PAGE..].as_mut_ptr()));
     let (calls, mut here, mut there) = (calls_of(length), Told::default(), Told::default());
     let times = best_of([
         &mut || round(&mut here, calls, |_| upstream::context_store_bytes(context, core, at, ITEM, 0, size, place)),
         &mut || round(&mut there, calls, |_| port.context_store_bytes(sources.sources, at, 0, size, place)),
-        // bytes of the area, and a source that is apart from it
+        // bytes that are neither side's, as far past a page's start
         &mut || plain_round(calls, |_| unsafe { ptr::copy(from, to, size as usize) }),
     ]);
     alike(case, &here, &there);
@@ -99,6 +99,7 @@ pub fn time(cases: &Cases) {
         for pages in STORED.into_iter().filter(|_| cases.wants(CALLS, case)) {
             let [rust, port, plain] = store_bytes(case, &mut both, sources, PLACE + past, pages * PAGE);
             cases.say_call(case, Some(pages * PAGE), [Some(rust), Some(port)], &[("memmove", plain)]);
+            both.same();
         }
     }
     for (count, pages) in ACTIONS {
@@ -107,9 +108,9 @@ pub fn time(cases: &Cases) {
         if cases.wants(CALLS, &case) {
             let times = mark_program(&case, &mut both, MARKED, count, pages).map(Some);
             cases.say_call(&case, Some(count * pages * PAGE), times, &[]);
+            both.same();
         }
     }
-    both.same();
     for tracks in [true, false] {
         tracking(cases, &mut both, tracks);
         both.same();

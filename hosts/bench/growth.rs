@@ -12,6 +12,7 @@ use upstream::Calls;
 
 const TABLE: &str = "growth";
 const SIZES: [usize; 5] = [4, 16, 64, 256, PAGES];
+const WORDS: u64 = (PAGE / 8) as u64;
 
 fn store64(case: &str, both: &mut Both) -> [f64; 2] {
     let Both { core, port, .. } = both;
@@ -19,8 +20,8 @@ fn store64(case: &str, both: &mut Both) -> [f64; 2] {
     race(
         case,
         calls_of(8),
-        |i| Calls::store64(memory, at + i % 256 * 8, i),
-        |i| port.store(|lent, memory| WXORX.store64(lent, memory, at + i % 256 * 8, i)),
+        |i| Calls::store64(memory, at + i % WORDS * 8, i),
+        |i| port.store(|lent, memory| WXORX.store64(lent, memory, at + i % WORDS * 8, i)),
     )
 }
 
@@ -30,8 +31,8 @@ fn load64(case: &str, both: &mut Both) -> [f64; 2] {
     race(
         case,
         calls_of(8),
-        |i| Calls::load64(memory, at + i % 256 * 8),
-        |i| port.ask(|lent, memory| WXORX.load64(lent, memory, at + i % 256 * 8)),
+        |i| Calls::load64(memory, at + i % WORDS * 8),
+        |i| port.ask(|lent, memory| WXORX.load64(lent, memory, at + i % WORDS * 8)),
     )
 }
 
@@ -62,11 +63,9 @@ pub fn time(cases: &Cases) {
     for (name, times) in calls.into_iter().filter(|(name, _)| cases.wants(TABLE, name)) {
         for machine in &mut machines {
             let times = times(name, machine);
+            machine.both.same();
             say(name, machine.both.pages, times);
         }
-    }
-    for machine in &mut machines {
-        machine.both.same();
     }
     for (which, dirty, tracked) in
         [("none dirty", false, false), ("all dirty", true, false), ("rest tracked", false, true)]
@@ -80,7 +79,7 @@ pub fn time(cases: &Cases) {
             let count = if dirty { pages } else { 0 };
             (pages, machine.time(Case { pages, count, apart: 1, tracked }))
         });
-        for (i, name) in names.iter().enumerate() {
+        for (i, name) in names.iter().enumerate().filter(|(_, name)| cases.wants(TABLE, name)) {
             for (pages, times) in &times {
                 let [rust, port, ..] = times[i];
                 say(name, *pages, [rust, port]);

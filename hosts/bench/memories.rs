@@ -1,8 +1,8 @@
 //! The calls of the two memories, and of the functions over them.
 //!
-//! Every page is present, in the slot of its own number. In the end both sides hold the same bytes and flags.
+//! Every page is present, in the slot of its own number. After each case both sides hold the same bytes and flags.
 
-use crate::archive::{self, Lent, Value};
+use crate::archive::{self, Lent, SPARSE, Value};
 use crate::rounds::{Cases, calls_of};
 use crate::sides::{DIRTY, EXECUTABLE, Layer, PAGE, PAGES, Port, Sparse, WXorX, block, held, patterned};
 use ckb_vm::Error;
@@ -13,7 +13,7 @@ use upstream::Calls;
 
 const SIZE: usize = PAGES * PAGE;
 const SIZES: [usize; 5] = [1, 8, 64, PAGE, 16 * PAGE];
-/// Where the calls store and load; the page that code is loaded from; the pages that are filled; those with strings.
+/// Where the calls store and load; the page that code is loaded from; the pages that are filled; the page of strings.
 const PLACE: usize = 8 * PAGE;
 const CODE: usize = 100 * PAGE;
 const FILLED: usize = 512 * PAGE;
@@ -22,7 +22,7 @@ const FILL: usize = 64 * PAGE;
 /// The zeros before and after a source in filled pages.
 const LEAD: usize = 100;
 const STRINGS: [usize; 3] = [8, 64, 1_000];
-/// The pages of a fresh memory, and those that permissions and dirty flags are looked at.
+/// The pages of a fresh memory, and those of a call that looks at flags or sets them.
 const FRESH: [usize; 3] = [4, 64, PAGES];
 const RANGES: [usize; 3] = [1, 16, PAGES];
 
@@ -53,9 +53,8 @@ fn load64_alone<M: Memory<REG = u64>>(memory: &mut M, address: u64) -> Result<u6
     memory.load64(&address)
 }
 
-/// Zeros, the source and zeros again, alone.
+/// Zeros, the source and zeros again, alone, into bytes that are apart from the source and as long as all three.
 fn pieces(to: *mut u8, source: &[u8]) {
-    // bytes of the area, and a source that is apart from it
     unsafe {
         ptr::write_bytes(to, 0, LEAD);
         ptr::copy(source.as_ptr(), to.add(LEAD), source.len());
@@ -73,9 +72,9 @@ pub fn time(cases: &Cases) {
 fn time_layer<L: Layer>(cases: &Cases) {
     let (rust, port) = filled::<L>();
     let name = |call: &str| format!("{} {call}", L::NAME);
-    let [place, zeros] = [PLACE, FILLED].map(|at| black_box(port.area[at..].as_mut_ptr()));
+    // plain copies and fills go into bytes that are neither side's
+    let beside = black_box(block(FILL).as_mut_ptr());
     let (source, out) = (patterned(FILL), block(16 * PAGE));
-    let to = out.as_mut_ptr();
     // no number of a call is a constant to the compiler
     let (at, value) = (black_box(PLACE as u64), black_box(7));
     let (code, from, fill, flag) =
@@ -93,9 +92,9 @@ fn time_layer<L: Layer>(cases: &Cases) {
             |_| Calls::store_bytes(rust, at, bytes),
             |_| port.store(|lent, memory| L::CALLS.store_bytes(lent, bytes, memory, at)),
             "memmove",
-            // bytes of the area, and a source that is apart from it
-            || unsafe { ptr::copy(bytes.as_ptr(), place, bytes.len()) },
+            || unsafe { ptr::copy(bytes.as_ptr(), beside, bytes.len()) },
         );
+        same::<L>(rust, port);
     }
     for n in SIZES {
         let size = black_box(n as u64);
@@ -106,8 +105,9 @@ fn time_layer<L: Layer>(cases: &Cases) {
             |_| Calls::store_byte(rust, at, size, value),
             |_| port.store(|lent, memory| L::CALLS.store_byte(lent, memory, at, size, value)),
             "memset",
-            || unsafe { ptr::write_bytes(place, value, size as usize) },
+            || unsafe { ptr::write_bytes(beside, value, size as usize) },
         );
+        same::<L>(rust, port);
     }
     for n in SIZES {
         let size = black_box(n as u64);
@@ -121,7 +121,7 @@ fn time_layer<L: Layer>(cases: &Cases) {
                 Value { number, value: size }
             },
             "memmove",
-            || unsafe { ptr::copy(place, to, size as usize) },
+            || unsafe { ptr::copy(source.as_ptr(), beside, size as usize) },
         );
         let loaded = rust.load_bytes(at, size);
         let number = port.ask(|lent, memory| L::CALLS.load_bytes(lent, out, memory, at, size));
@@ -170,7 +170,8 @@ fn time_layer<L: Layer>(cases: &Cases) {
                 (PAGE / $bytes) as u64,
                 |i| Calls::$call(rust, at + $bytes * i, i),
                 |i| port.store(|lent, memory| L::CALLS.$call(lent, memory, at + $bytes * i, i)),
-            );)*
+            );
+            same::<L>(rust, port);)*
         };
     }
     stored_words! { store8 1; store16 2; store32 4; store64 8; }
@@ -186,7 +187,8 @@ fn time_layer<L: Layer>(cases: &Cases) {
                 all,
                 |page| Calls::$call(rust, page $(, $flag)?),
                 |page| port.ask(|lent, memory| L::CALLS.$call(lent, memory, page $(, $flag)?)),
-            );)*
+            );
+            same::<L>(rust, port);)*
         };
     }
     let dirty = black_box(DIRTY);
@@ -198,8 +200,9 @@ fn time_layer<L: Layer>(cases: &Cases) {
         |_| Calls::init_pages(rust, from, fill, flag, None, 0),
         |_| port.store(|lent, memory| L::CALLS.init_pages(lent, &[], memory, from, fill, flag, 0)),
         "memset",
-        || unsafe { ptr::write_bytes(zeros, 0, fill as usize) },
+        || unsafe { ptr::write_bytes(beside, 0, fill as usize) },
     );
+    same::<L>(rust, port);
     for pages in [1, FILL / PAGE] {
         let (n, lead) = (pages * PAGE, black_box(LEAD as u64));
         let (size, source) = (black_box(n as u64), black_box(&source[..n - 2 * LEAD]));
@@ -210,8 +213,9 @@ fn time_layer<L: Layer>(cases: &Cases) {
             |_| Calls::init_pages(rust, from, size, flag, Some(source), lead),
             |_| port.store(|lent, memory| L::CALLS.init_pages(lent, source, memory, from, size, flag, lead)),
             "pieces",
-            || pieces(zeros, source),
+            || pieces(beside, source),
         );
+        same::<L>(rust, port);
     }
 
     // ---- the memory's own numbers
@@ -268,6 +272,7 @@ fn time_layer<L: Layer>(cases: &Cases) {
         |_| Calls::store_bytes(rust, end - 32, bytes),
         |_| port.store(|lent, memory| L::CALLS.store_bytes(lent, bytes, memory, end - 32)),
     );
+    same::<L>(rust, port);
     cases.race(
         &name("store64 across"),
         Some(8),
@@ -320,6 +325,10 @@ fn time_functions(cases: &Cases) {
     }
     for pages in RANGES {
         let (first, last) = (black_box(0), black_box(pages as u64 - 1));
+        for page in 0..PAGES as u64 {
+            let number = port.ask(|lent, memory| SPARSE.clear_flag(lent, memory, page, DIRTY));
+            assert!(number == 0 && rust.clear_flag(page, DIRTY).is_ok(), "no clean page");
+        }
         cases.race(
             "memory set_dirty",
             Some(pages * PAGE),
@@ -327,8 +336,9 @@ fn time_functions(cases: &Cases) {
             |_| Calls::set_dirty(rust, first, last),
             |_| port.ask(|lent, memory| archive::set_dirty(lent, memory, first, last)),
         );
+        same::<Sparse>(rust, port);
     }
-    let to = black_box(port.area[PLACE..].as_mut_ptr());
+    let beside = black_box(block(16 * PAGE).as_mut_ptr());
     let all = patterned(16 * PAGE);
     for pages in [1, 16] {
         let (n, lead, at) = (pages * PAGE, black_box(LEAD as u64), black_box(PLACE as u64));
@@ -340,8 +350,8 @@ fn time_functions(cases: &Cases) {
             |_| Calls::fill_page_data(rust, at, size, source, lead),
             |_| port.store(|lent, memory| archive::fill_page_data(lent, source, memory, at, size, lead)),
             "pieces",
-            || pieces(to, source),
+            || pieces(beside, source),
         );
+        same::<Sparse>(rust, port);
     }
-    same::<Sparse>(rust, port);
 }

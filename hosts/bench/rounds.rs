@@ -1,18 +1,18 @@
 //! How a case is timed and said.
 //!
 //! A case is a round of equal calls. Both sides make it in turn, many times over, and a side's time is its best round.
-//! Both sides' answers are added up: none may be refused, and the sums are the same.
+//! Both sides' answers are added up: every number must be 0, and the sums the same.
 
 use crate::archive::{ContextStored, Found, Indices, Made, Recorded, Stored, Value};
-use crate::sides::BEFORE_RUNS;
+use crate::sides::{BEFORE_RUNS, PAGE};
 use ckb_vm::snapshot2::Snapshot2;
 use ckb_vm::{Bytes, Error};
 use std::arch::asm;
 use std::time::Instant;
 
-const ROUNDS: usize = 300;
+const ROUNDS: usize = 400;
 /// The rounds of a case whose call takes so many nanoseconds or more.
-const FEW_ROUNDS: usize = 60;
+const FEW_ROUNDS: usize = 100;
 const LONG: f64 = 20_000.0;
 
 // ---- answers
@@ -85,13 +85,13 @@ answered! {
 }
 
 /// A side's answers so far.
-#[derive(Default, PartialEq)]
+#[derive(Default)]
 pub struct Told {
     numbers: u32,
     sum: u64,
 }
 
-/// Stops the program where a call was refused, or the two sides' answers differ.
+/// Stops the program where a number is not 0, or the two sides' answers differ.
 pub fn alike(case: &str, rust: &Told, port: &Told) {
     assert!(rust.numbers == 0, "{case}: a call of the Rust has another number than it must");
     assert!(port.numbers == 0, "{case}: a call of the port has another number than it must");
@@ -123,8 +123,8 @@ pub fn round<A: Answered>(told: &mut Told, calls: u64, mut call: impl FnMut(u64)
 }
 
 /// Nanoseconds of what is not a call: a round of it, so many times.
-pub fn plain_round(times: u64, mut what: impl FnMut(u64)) -> f64 {
-    round(&mut Told::default(), times, |i| what(i))
+pub fn plain_round(times: u64, what: impl FnMut(u64)) -> f64 {
+    round(&mut Told::default(), times, what)
 }
 
 /// A side: nanoseconds a call of its next round.
@@ -149,6 +149,8 @@ pub fn best_of<const N: usize>(mut sides: [Side; N]) -> [f64; N] {
 }
 
 // ---- what is said
+
+pub const CALLS: &str = "calls";
 
 /// The tables, and the word that a case's name must contain.
 pub struct Cases {
@@ -198,6 +200,7 @@ impl Cases {
     }
 
     /// The same with bytes that are moved, and for whole pages the time of that alone.
+    #[allow(clippy::too_many_arguments)]
     pub fn race_beside<R: Answered, P: Answered>(
         &self,
         case: &str,
@@ -219,16 +222,9 @@ impl Cases {
         ]);
         alike(case, &here, &there);
         let beside = [(what, beside)];
-        self.say_call(
-            case,
-            Some(bytes),
-            [Some(rust), Some(port)],
-            if bytes >= crate::sides::PAGE { &beside } else { &[] },
-        );
+        self.say_call(case, Some(bytes), [Some(rust), Some(port)], if bytes >= PAGE { &beside } else { &[] });
     }
 }
-
-pub const CALLS: &str = "calls";
 
 /// Two sides of equal calls.
 pub fn race<R: Answered, P: Answered>(

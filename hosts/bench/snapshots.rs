@@ -34,7 +34,7 @@ impl Case {
 
     /// The pages that a resume has to take from the item.
     fn others(self) -> impl Iterator<Item = usize> {
-        let dirty = move |page: &usize| page % self.apart == 0 && page / self.apart < self.count;
+        let dirty = move |page: &usize| page.is_multiple_of(self.apart) && page / self.apart < self.count;
         (0..if self.tracked { self.pages } else { 0 }).filter(move |page| !dirty(page))
     }
 
@@ -186,7 +186,8 @@ pub fn time(cases: &Cases) {
             }
             let times = handover.time(case);
             let moved = [case.bytes(), case.moved()];
-            for ((name, [rust, port, pages, whole]), moved) in names.iter().zip(times).zip(moved) {
+            let said = names.iter().zip(times).zip(moved).filter(|((name, _), _)| cases.wants(CALLS, name));
+            for ((name, [rust, port, pages, whole]), moved) in said {
                 let copies = [("pages", pages), ("whole", whole)];
                 cases.say_call(
                     name,

@@ -30,8 +30,10 @@ enum { PROGRAM_AT = 0x1000, READINGS_AT = 0x3064, SUM_AT = 0xf000, SIZE_WORD_AT 
 enum { MOST_PROGRAM = 2 * LATCHPEBBLE_PAGE, MOST_READINGS = 4000, WORD = 8 };
 enum { PROGRAM_FLAGS = LATCHPEBBLE_FLAG_FREEZED | LATCHPEBBLE_FLAG_EXECUTABLE };
 
-/* The ids of the two sources. */
+/* The ids of the two sources, their entries in the directory, and the words of an entry. */
 enum { PROGRAM_ITEM = 1, READINGS_ITEM = 7 };
+enum { PROGRAM_ENTRY, READINGS_ENTRY, ENTRIES };
+enum { ENTRY_ID, ENTRY_START, ENTRY_LENGTH };
 
 /* The registers that the program is given its readings in: their address, how many, and where the sum goes. */
 enum { A0 = 10, A1 = 11, A2 = 12 };
@@ -48,7 +50,12 @@ static uint64_t records[PAGES * LATCHPEBBLE_PAGE_RECORD_WORDS];
 /* The sources: the program's bytes and then the readings, and a directory that says where each item starts and ends. */
 static uint8_t sources[MOST_PROGRAM + MOST_READINGS * WORD];
 static size_t sources_len;
-static uint64_t directory[2 * LATCHPEBBLE_ENTRY_WORDS];
+static uint64_t directory[ENTRIES * LATCHPEBBLE_ENTRY_WORDS];
+
+static uint64_t *entry(size_t number)
+{
+    return directory + number * LATCHPEBBLE_ENTRY_WORDS;
+}
 
 /* A snapshot's two files, as they are made or read. */
 static struct pair_files files;
@@ -136,7 +143,7 @@ static void make_fresh(void)
    dirty, and a snapshot has its bytes. */
 static void load_program(void)
 {
-    uint64_t length = directory[2];
+    uint64_t length = entry(PROGRAM_ENTRY)[ENTRY_LENGTH];
     uint64_t size = latchpebble_round_page_up(length);
     latchpebble_stored filled =
         latchpebble_wxorx_init_pages(MEMORY, sources, (size_t)length, machine.memory.size, PROGRAM_AT, size,
@@ -151,7 +158,7 @@ static void load_program(void)
 
 static void store_readings(void)
 {
-    uint64_t length = directory[LATCHPEBBLE_ENTRY_WORDS + 2];
+    uint64_t length = entry(READINGS_ENTRY)[ENTRY_LENGTH];
     latchpebble_context_stored stored =
         latchpebble_context_store_bytes(MEMORY, RECORDS, SOURCES, machine.memory.size, READINGS_AT, READINGS_ITEM, 0,
                                         length, SIZE_WORD_AT, machine.memory.used);
@@ -294,12 +301,11 @@ static uint64_t cycles_of(const char *word)
 }
 
 /* Puts an item at the end of the sources, and its entry into the directory. */
-static void add_item(size_t entry, uint64_t id, const uint8_t *bytes, size_t length)
+static void add_item(size_t number, uint64_t id, const uint8_t *bytes, size_t length)
 {
-    uint64_t *words = directory + entry * LATCHPEBBLE_ENTRY_WORDS;
-    words[0] = id;
-    words[1] = sources_len;
-    words[2] = length;
+    entry(number)[ENTRY_ID] = id;
+    entry(number)[ENTRY_START] = sources_len;
+    entry(number)[ENTRY_LENGTH] = length;
     memcpy(sources + sources_len, bytes, length);
     sources_len += length;
 }
@@ -327,7 +333,7 @@ static void read_program(const char *path)
     closed(file, path);
     if (length > MOST_PROGRAM)
         fail("%s has more than %d bytes", path, MOST_PROGRAM);
-    add_item(0, PROGRAM_ITEM, bytes, length);
+    add_item(PROGRAM_ENTRY, PROGRAM_ITEM, bytes, length);
 }
 
 static void read_readings(const char *path)
@@ -348,7 +354,7 @@ static void read_readings(const char *path)
             bytes[(lines - 1) * WORD + i] = (uint8_t)(reading >> 8 * i);
     }
     closed(file, path);
-    add_item(1, READINGS_ITEM, bytes, lines * WORD);
+    add_item(READINGS_ENTRY, READINGS_ITEM, bytes, lines * WORD);
 }
 
 /* What was printed is out, or that is a failure too. */

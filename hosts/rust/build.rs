@@ -15,7 +15,7 @@ fn main() {
     match archive.canonicalize() {
         Ok(found) => println!("cargo::rustc-link-search=native={}", found.parent().unwrap_or(&found).display()),
         Err(error) => println!(
-            "cargo::error=no archive at {}: {error}. Run `rt staticlib host` in the repository, or set {VARIABLE} to \
+            "cargo::error=no archive at {}: {error}. Run `tools/calls --build port` in the repository, or set {VARIABLE} to \
              the directory of a {ARCHIVE}.",
             archive.display()
         ),

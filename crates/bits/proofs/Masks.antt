@@ -1,5 +1,5 @@
 -- A page's masks, 4,095 and its complement, in plain arithmetic.
-use Rattle.std.proofs.Common.{◌≡◌, ℕ, ◌-◌, ◌*◌, ◌/◌, ◌%◌, ◌^◌, ◌<◌, ap, ◌∙◌, arith}
+use Rattle.std.proofs.Common.{◌≡◌, ℕ, ◌-◌, ◌%◌, ◌^◌, ◌<◌, ap, ◌∙◌, arith}
 use lib.Bits.{bit_and, and_mask, and_high}
 use Rattle.bits.specs.Rounding.{page_size, rounded_down}
 

@@ -1,5 +1,5 @@
 -- Where rounding up wraps to 0, and what both roundings are everywhere else.
-use Rattle.std.proofs.Common.{◌≡◌, ℕ, ◌+◌, ◌-◌, ◌*◌, ◌%◌, ◌^◌, ◌<◌, ◌≤◌, arith}
+use Rattle.std.proofs.Common.{◌≡◌, ℕ, ◌+◌, ◌-◌, ◌%◌, ◌^◌, ◌<◌, ◌≤◌, arith}
 use Rattle.bits.specs.Rounding.{page_size, rounded_up, rounded_down}
 
 -- THE WRAP: above the last whole page rounding up gives 0

@@ -4,6 +4,8 @@
 // 4,097 gives 8,192, 2^64-1 gives 0. Rounding 4,095 down gives 0." The code has bits.rs's form, masks and
 // wrapping sums; the promises are plain arithmetic (specs/Rounding.antt), and callers use these alone.
 // Both calls answer every number. That the sum wraps to 0 at the top, and nowhere else, is proofs/Wrap.antt.
+#![tactic(auto)]
+
 ghost use Rattle.std.specs.Prelude.{◌≡◌};
 ghost use Rattle.bits.specs.Rounding.{rounded_up, rounded_down};
 

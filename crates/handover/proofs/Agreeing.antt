@@ -33,8 +33,8 @@ use Rattle.handover.proofs.Restoring.{Right}
 -- ---- to agree is to look alike
 
 -- the record of a dirty page is not seen
-agreed-entry : (m n : LentMachine) → Agree m n → (p : ℕ) → entry_in n.0.0.flags n.0.1 p ≡ entry_in m.0.0.flags m.0.1 p
-agreed-entry m n a p =
+agreed_entry : (m n : LentMachine) → Agree m n → (p : ℕ) → entry_in n.0.0.flags n.0.1 p ≡ entry_in m.0.0.flags m.0.1 p
+agreed_entry m n a p =
     ap (λ (f : ℕ). masked f (record_at n.0.1 p)) (a.flags p)
     ∙ elim (ℕ_discrete (bit_and (flag_at m.0.0.flags p) dirty) 0) [
       | yes e ↦ ap (masked (flag_at m.0.0.flags p)) (a.entries p e)
@@ -51,7 +51,7 @@ agree-seen m n a = λ i. (
           size = a.size i;
           reservation = a.reservation i;
         };
-    entry = fun_ext (agreed-entry m n a) i;
+    entry = fun_ext (agreed_entry m n a) i;
   },
   a.numbers i,
 )
@@ -110,8 +110,8 @@ entry-offset m w q id offset flag e = elim (ℕ_discrete (bit_and (flag_at m.0.0
       absurd (let z : ◌≡◌ {A = ℕ} 0 1 = cc in omega arith)
 ]
 
-pub view-right : (directory sources : List ℕ) (m : LentMachine) → Sound directory sources m → Right directory sources (view m.0)
-view-right directory sources m s =
+pub view_right : (directory sources : List ℕ) (m : LentMachine) → Sound directory sources m → Right directory sources (view m.0)
+view_right directory sources m s =
     let w : FormedMachine m = reached-formed m s.reached in
     let t : InTypes m = reached_in_types m s.reached in
     let f = w.memory.fit in

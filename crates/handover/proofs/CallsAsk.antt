@@ -91,26 +91,26 @@ module _ {P : memory-op.Op → Type 0} (h : Asking P) where
   unfolding permitted
   asks-permitted want a n = asks-onwards P (λ k. k) _ (page_indices a n).number (asks-permits _ _ want)
 
-  pub asks-set_flag : (p f : ℕ) → P (or! p f) → OnMemory P (set_flag p f)
+  pub asks_set_flag : (p f : ℕ) → P (or! p f) → OnMemory P (set_flag p f)
   unfolding set_flag
-  asks-set_flag p f k = memory-fitting (λ n. n) (perform (or! p f)) (k, λ n. tt)
+  asks_set_flag p f k = memory-fitting (λ n. n) (perform (or! p f)) (k, λ n. tt)
 
-  asks-set_dirty : (first last : ℕ) → ((p : ℕ) → P (or! p dirty)) → OnMemory P (set_dirty first last)
+  asks_set_dirty : (first last : ℕ) → ((p : ℕ) → P (or! p dirty)) → OnMemory P (set_dirty first last)
   unfolding set_dirty marks
-  asks-set_dirty first last k = memory-fitting (λ n. n) _ (asks-each P (λ p. perform (or! p dirty)) (λ p. (k p, λ n. tt)) _ first)
+  asks_set_dirty first last k = memory-fitting (λ n. n) _ (asks-each P (λ p. perform (or! p dirty)) (λ p. (k p, λ n. tt)) _ first)
 
   -- stores
 
-  asks-store_over : (pages a : ℕ) (l : List ℕ) → OnMemory P (store_over pages a l)
+  asks_store_over : (pages a : ℕ) (l : List ℕ) → OnMemory P (store_over pages a l)
   unfolding store_over
-  asks-store_over zero a l = tt
-  asks-store_over (suc pages) a l =
+  asks_store_over zero a l = tt
+  asks_store_over (suc pages) a l =
       asks_cond P (eqb (length l) 0) (ret 0) _ tt
-      (asks-after P (λ n. n) (perform (part! a l)) _ (h.part a l, λ n. tt) (asks-store_over pages _ _))
+      (asks-after P (λ n. n) (perform (part! a l)) _ (h.part a l, λ n. tt) (asks_store_over pages _ _))
 
   asks-store : (a : ℕ) (l : List ℕ) → OnMemory P (store a l)
   unfolding store
-  asks-store a l = asks-store_over (length l) a l
+  asks-store a l = asks_store_over (length l) a l
 
   asks_sparse : (a : ℕ) (l : List ℕ) → OnMemory P (sparse.store_bytes a l)
   unfolding sparse.store_bytes
@@ -128,27 +128,27 @@ module _ {P : memory-op.Op → Type 0} (h : Asking P) where
   asks-fill a size lead source =
       asks-after P (λ n. n) _ _ (asks-store _ _) (asks-after P (λ n. n) _ _ (asks-store _ _) (asks-store _ _))
 
-  asks-fill_page_data : (a size lead : ℕ) (source : List ℕ) → OnMemory P (fill_page_data a size lead source)
+  asks_fill_page_data : (a size lead : ℕ) (source : List ℕ) → OnMemory P (fill_page_data a size lead source)
   unfolding fill_page_data
-  asks-fill_page_data a size lead source = memory-fitting (λ n. n) _ (asks-fill a size lead source)
+  asks_fill_page_data a size lead source = memory-fitting (λ n. n) _ (asks-fill a size lead source)
 
-  asks-init_flag : (flags p : ℕ) → P (or! p flags) → OnMemory P (init_flag flags p)
+  asks_init_flag : (flags p : ℕ) → P (or! p flags) → OnMemory P (init_flag flags p)
   unfolding init_flag
-  asks-init_flag flags p k = (
+  asks_init_flag flags p k = (
     h.flag p,
     λ f.
         asks-onwards P (λ n. n) _ f.number
         (asks_cond P (eqb (bit_and f.value frozen) 0) (perform (or! p flags)) (ret 5) (k, λ n. tt) tt),
   )
 
-  pub asks-init_pages : (a size flags lead : ℕ) (source : List ℕ) → ((p : ℕ) → P (or! p flags)) → OnMemory P (init_pages a size flags lead source)
+  pub asks_init_pages : (a size flags lead : ℕ) (source : List ℕ) → ((p : ℕ) → P (or! p flags)) → OnMemory P (init_pages a size flags lead source)
   unfolding init_pages
-  asks-init_pages a size flags lead source k =
+  asks_init_pages a size flags lead source k =
       memory-fitting (λ n. n) _ (
         h.size,
         λ m.
             asks-onwards P (λ n. n) _ (in_bounds m a size lead)
-            (asks-after P (λ n. n) _ _ (asks-each P (init_flag flags) (λ p. asks-init_flag flags p (k p)) _ _) (asks-fill a size lead source)),
+            (asks-after P (λ n. n) _ _ (asks-each P (init_flag flags) (λ p. asks_init_flag flags p (k p)) _ _) (asks-fill a size lead source)),
       )
 
   -- loads
@@ -161,41 +161,41 @@ module _ {P : memory-op.Op → Type 0} (h : Asking P) where
   unfolding load
   asks-load n a = asks-after P no_value _ _ (asks-meets a n) (h.bytes a n, λ l. tt)
 
-  asks-load_wide : (n a : ℕ) → OnMemory P (load_wide n a)
+  asks_load_wide : (n a : ℕ) → OnMemory P (load_wide n a)
   unfolding load_wide
-  asks-load_wide n a = memory-fitting no_value _ (asks-load n a)
+  asks_load_wide n a = memory-fitting no_value _ (asks-load n a)
 
-  asks-execute_load : (n a : ℕ) → OnMemory P (execute_load n a)
+  asks_execute_load : (n a : ℕ) → OnMemory P (execute_load n a)
   unfolding execute_load
-  asks-execute_load n a = memory-fitting no_value _ (asks-after P no_value _ _ (asks-permitted executable a n) (asks-load n a))
+  asks_execute_load n a = memory-fitting no_value _ (asks-after P no_value _ _ (asks-permitted executable a n) (asks-load n a))
 
-  asks-load_bytes : (a n room : ℕ) → OnMemory P (load_bytes a n room)
+  asks_load_bytes : (a n room : ℕ) → OnMemory P (load_bytes a n room)
   unfolding load_bytes reach
-  asks-load_bytes a n room =
+  asks_load_bytes a n room =
       memory-fitting no_output _
       (asks_cond P (eqb n 0) (ret (no_output 0)) _ tt
       (asks-after P no_output _ _
       (h.size, λ m. asks_cond P (ltb m (a + n)) (ret 2) _ tt (asks-after P (λ k. k) _ _ (asks-meets a n) tt))
       (h.bytes a n, λ l. tt)))
 
-  asks-next_byte : (a : ℕ) (seen : List ℕ) (more : ℕ → memory-op.Call Output) → ((b : ℕ) → OnMemory P (more b))
+  asks_next_byte : (a : ℕ) (seen : List ℕ) (more : ℕ → memory-op.Call Output) → ((b : ℕ) → OnMemory P (more b))
       → OnMemory P (next_byte a seen more)
   unfolding next_byte
-  asks-next_byte a seen more k = (
+  asks_next_byte a seen more k = (
     h.meet _,
     λ n.
         asks-onwards P (λ m. output m 0 seen) _ n
         (h.byte a, λ b. asks_cond P (eqb b 0) (ret (output 0 (length seen) seen)) (more b) tt (k b)),
   )
 
-  asks-c_string : (room a : ℕ) (seen : List ℕ) → OnMemory P (c_string room a seen)
+  asks_c_string : (room a : ℕ) (seen : List ℕ) → OnMemory P (c_string room a seen)
   unfolding c_string
-  asks-c_string zero a seen = asks-next_byte a seen _ (λ b. tt)
-  asks-c_string (suc room) a seen = asks-next_byte a seen _ (λ b. asks-c_string room (a + 1) (seen ++ (b ∷ [])))
+  asks_c_string zero a seen = asks_next_byte a seen _ (λ b. tt)
+  asks_c_string (suc room) a seen = asks_next_byte a seen _ (λ b. asks_c_string room (a + 1) (seen ++ (b ∷ [])))
 
-  asks-load_c_string : (a room : ℕ) → OnMemory P (load_c_string a room)
+  asks_load_c_string : (a room : ℕ) → OnMemory P (load_c_string a room)
   unfolding load_c_string
-  asks-load_c_string a room = memory-fitting no_output _ (asks-c_string room a [])
+  asks_load_c_string a room = memory-fitting no_output _ (asks_c_string room a [])
 
 -- a call asks operations of the kind alone, or sets flags that it is given: set_flag, and W^X init_pages
 pub data Kind (P : memory-op.Op → Type 0) : memory.Named → Type 0 where
@@ -206,13 +206,13 @@ pub data Kind (P : memory-op.Op → Type 0) : memory.Named → Type 0 where
 module _ {P : memory-op.Op → Type 0} (h : Asking P) (dirties : (p : ℕ) → P (or! p dirty)) where
   pub kind : (c : memory.Named) → ((x : ℕ) → c ≡ memory.set_lr_call x → P (lr! x)) → Kind P c
   unfolding fetch_flag check_permission memory_size memory_pages lr set_lr sparse.store_byte sparse.store_wide wxorx.store_byte wxorx.store_wide
-  kind (memory.init_pages_call memory.on_sparse a size flags lead source) r = asks (asks-fill_page_data h a size lead source)
+  kind (memory.init_pages_call memory.on_sparse a size flags lead source) r = asks (asks_fill_page_data h a size lead source)
   kind (memory.init_pages_call memory.on_wxorx a size flags lead source) r = inits a size flags lead source
-  kind (memory.fill_page_data_call a size lead source) r = asks (asks-fill_page_data h a size lead source)
+  kind (memory.fill_page_data_call a size lead source) r = asks (asks_fill_page_data h a size lead source)
   kind (memory.fetch_flag_call p) r = asks (memory-fitting h no_value (perform (flag? p)) (h.flag p, λ f. tt))
   kind (memory.set_flag_call p f) r = sets p f
   kind (memory.check_permission_call first last want) r = asks (memory-fitting h (λ n. n) _ (asks-permits h first last want))
-  kind (memory.set_dirty_call first last) r = asks (asks-set_dirty h first last dirties)
+  kind (memory.set_dirty_call first last) r = asks (asks_set_dirty h first last dirties)
   kind memory.memory_size_call r = asks {c = memory.memory_size_call} (h.size, λ n. tt)
   kind memory.memory_pages_call r = asks {c = memory.memory_pages_call} (h.size, λ n. tt)
   kind (memory.store_byte_call memory.on_sparse a n v) r = asks (asks_sparse h a (filled n v))
@@ -221,11 +221,11 @@ module _ {P : memory-op.Op → Type 0} (h : Asking P) (dirties : (p : ℕ) → P
   kind (memory.store_bytes_call memory.on_wxorx a l) r = asks (asks_wxorx h a l)
   kind (memory.store_wide_call memory.on_sparse n a x) r = asks (asks_sparse h a (to_le n x))
   kind (memory.store_wide_call memory.on_wxorx n a x) r = asks (asks_wxorx h a (to_le n x))
-  kind (memory.load_bytes_call a n out) r = asks (asks-load_bytes h a n (length out))
-  kind (memory.load_wide_call n a) r = asks (asks-load_wide h n a)
-  kind (memory.execute_load_call memory.on_sparse n a) r = asks (asks-load_wide h n a)
-  kind (memory.execute_load_call memory.on_wxorx n a) r = asks (asks-execute_load h n a)
-  kind (memory.load_c_string_call a out) r = asks (asks-load_c_string h a (length out))
+  kind (memory.load_bytes_call a n out) r = asks (asks_load_bytes h a n (length out))
+  kind (memory.load_wide_call n a) r = asks (asks_load_wide h n a)
+  kind (memory.execute_load_call memory.on_sparse n a) r = asks (asks_load_wide h n a)
+  kind (memory.execute_load_call memory.on_wxorx n a) r = asks (asks_execute_load h n a)
+  kind (memory.load_c_string_call a out) r = asks (asks_load_c_string h a (length out))
   kind memory.get_lr_call r = asks {c = memory.get_lr_call} (h.reservation, λ n. tt)
   kind (memory.set_lr_call x) r = asks {c = memory.set_lr_call x} (r x refl, λ n. tt)
 
@@ -250,73 +250,73 @@ module _ {P : AnyOp → Type 0} (h : AskingTracked P) where
   unfolding fitting
   tracked-fitting refused g a = (h.lengths, λ b. asks_cond P b g (ret (refused 9)) a tt)
 
-  pub asks-untrack_pages : (start size : ℕ) → OnTracked P (untrack_pages start size)
+  pub asks_untrack_pages : (start size : ℕ) → OnTracked P (untrack_pages start size)
   unfolding untrack_pages untrack drop_whole
-  asks-untrack_pages start size =
+  asks_untrack_pages start size =
       tracked-fitting (λ n. n) _
       (asks_cond P (eqb size 0) (ret 0) _ tt
       (asks-onwards P (λ n. n) _ (page_indices start size).number
       (asks-each P (λ p. perform (own (drop! p))) (λ p. (h.drop p, λ n. tt)) _ _)))
 
-  pub asks-page_record : (p : ℕ) → OnTracked P (page_record p)
+  pub asks_page_record : (p : ℕ) → OnTracked P (page_record p)
   unfolding page_record
-  asks-page_record p =
+  asks_page_record p =
       tracked-fitting not_recorded _
       (h.memory.flag p, λ f. asks-onwards P not_recorded _ f.number (h.entry p, λ t. tt))
 
   -- what a snapshot asks of the pages
 
-  asks-meet_run : (r : Run) → OnTracked P (meet_run r)
+  asks_meet_run : (r : Run) → OnTracked P (meet_run r)
   unfolding meet_run
-  asks-meet_run r = asks-each P (λ p. perform (low (meet? p))) (λ p. (h.memory.meet p, λ n. tt)) _ _
+  asks_meet_run r = asks-each P (λ p. perform (low (meet? p))) (λ p. (h.memory.meet p, λ n. tt)) _ _
 
-  asks-take_runs : (runs : List Run) (sources : List SourceRun) → OnTracked P (take_runs runs sources)
+  asks_take_runs : (runs : List Run) (sources : List SourceRun) → OnTracked P (take_runs runs sources)
   unfolding take_runs read_run
-  asks-take_runs runs sources =
+  asks_take_runs runs sources =
       asks-after P not_taken _ _
-      (asks_in P meet_run runs (each_of (λ (r : Run). OnTracked P (meet_run r)) asks-meet_run runs))
+      (asks_in P meet_run runs (each_of (λ (r : Run). OnTracked P (meet_run r)) asks_meet_run runs))
       (asks-bind P _ _ (asks-collect_in P read_run (λ r. (h.memory.bytes _ _, λ l. tt)) runs) (λ l. tt))
 
-  pub asks-take_pages : OnTracked P take_pages
+  pub asks_take_pages : OnTracked P take_pages
   unfolding take_pages ask_flag ask_entry
-  asks-take_pages =
+  asks_take_pages =
       tracked-fitting not_taken _ (
         h.memory.size,
         λ n.
             asks-bind P _ _ (asks-collect P ask_flag (λ p. (h.memory.flag p, λ f. tt)) (n / page_size) 0)
             (λ flags.
             asks-bind P _ _ (asks-collect P ask_entry (λ p. (h.entry p, λ t. tt)) (n / page_size) 0)
-            (λ entries. asks-take_runs _ _)),
+            (λ entries. asks_take_runs _ _)),
       )
 
 -- those that track pages from an item
 module _ {P : AnyOp → Type 0} (h : AskingTracked P) (id : ℕ) (tracks : (p offset : ℕ) → P (own (track! p id offset))) where
-  pub asks-track_pages : (start size offset : ℕ) → OnTracked P (track_pages start size id offset)
+  pub asks_track_pages : (start size offset : ℕ) → OnTracked P (track_pages start size id offset)
   unfolding track_pages track track_whole
-  asks-track_pages start size offset =
+  asks_track_pages start size offset =
       tracked-fitting h (λ n. n) _
       (asks_cond P (ltb size (distance start)) (ret 0) _ tt
       (asks_cond P (ltb (2 ^ 64 - page_size) start) (ret 2) _ tt
       (asks_cond P (ltb top (offset + distance start)) (ret 2) _ tt
       (asks-each P (track_from _ id (offset + distance start)) (λ p. (tracks p _, λ n. tt)) _ _))))
 
-  pub asks-store_bytes : (directory sources : List ℕ) (a offset wanted size_at : ℕ)
+  pub asks_store_bytes : (directory sources : List ℕ) (a offset wanted size_at : ℕ)
       → OnTracked P (store_bytes directory sources a id offset wanted size_at)
   unfolding store_bytes store_found store_data replace store_tracked wxorx.store_wide
-  asks-store_bytes directory sources a offset wanted size_at =
+  asks_store_bytes directory sources a offset wanted size_at =
       let d = find_data directory (length sources) id offset wanted in
       let l : List ℕ = data_of sources d in
       tracked-fitting h not_stored _
       (asks-onwards P not_stored _ d.number
       (asks-after P not_stored (store_data size_at d.full a id offset l) (ret _)
       (asks-after P (λ n. n) _ _ (asks_on_memory P _ (asks_wxorx h.memory size_at (to_le 8 d.full)))
-      (asks-after P (λ n. n) _ _ (asks-untrack_pages h a (length l))
-      (asks-after P (λ n. n) _ _ (asks_on_memory P _ (asks_wxorx h.memory a l)) (asks-track_pages a (length l) offset))))
+      (asks-after P (λ n. n) _ _ (asks_untrack_pages h a (length l))
+      (asks-after P (λ n. n) _ _ (asks_on_memory P _ (asks_wxorx h.memory a l)) (asks_track_pages a (length l) offset))))
       tt))
 
-  pub asks-mark_program : (actions : List ℕ) (offset : ℕ) → OnTracked P (mark_program actions id offset)
+  pub asks_mark_program : (actions : List ℕ) (offset : ℕ) → OnTracked P (mark_program actions id offset)
   unfolding mark_program mark_actions mark_action
-  asks-mark_program actions offset =
+  asks_mark_program actions offset =
       tracked-fitting h (λ n. n) _
       (asks-each P (λ i. mark_action id offset (action_at actions i))
       (λ i.
@@ -324,7 +324,7 @@ module _ {P : AnyOp → Type 0} (h : AskingTracked P) (id : ℕ) (tracks : (p of
       asks_cond P (ltb top (action.addr + action.lead)) (ret 2) _ tt
       (asks_cond P (ltb action.end action.start) (ret 2) _ tt
       (asks_cond P (ltb action.size action.lead) (ret 2) _ tt
-      (asks_cond P (ltb top (offset + action.start)) (ret 2) _ tt (asks-track_pages _ _ _))))) _ 0)
+      (asks_cond P (ltb top (offset + action.start)) (ret 2) _ tt (asks_track_pages _ _ _))))) _ 0)
 
 -- ---- calls on a machine
 
@@ -345,10 +345,10 @@ pub asks_on_machine : (P : MachineOp → Type 0) {A : Type 0} (g : Call A) → O
 asks_on_machine P g a = asks-lift machine.Reply P g a
 
 module _ {P : MachineOp → Type 0} (h : AskingMachine P) where
-  pub asks-make_snapshot : (file pages : ℕ) → OnMachine P (make_snapshot file pages)
+  pub asks_make_snapshot : (file pages : ℕ) → OnMachine P (make_snapshot file pages)
   unfolding make_snapshot ask_kept
-  asks-make_snapshot file pages =
-      asks-bind P _ _ (asks_on_machine P take_pages (asks-take_pages h.storage))
+  asks_make_snapshot file pages =
+      asks-bind P _ _ (asks_on_machine P take_pages (asks_take_pages h.storage))
       (λ t.
       asks-onwards P not_made _ t.number
       (asks-bind P ask_kept _

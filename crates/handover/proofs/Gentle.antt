@@ -31,7 +31,7 @@ use Rattle.handover.specs.View.{View, remasked, does_v, MachineView, machine_doe
 use Rattle.handover.specs.Keeping.{NothingLost}
 use Rattle.handover.specs.Sound.{SoundPage, SoundPages, is_dirty, is_tracked, is_blank, page_in}
 use Rattle.handover.proofs.Asks.{Asks, asks-kept}
-use Rattle.handover.proofs.CallsAsk.{Asking, Setting, setting_asks, AskingTracked, asks_wxorx, asks_on_memory, asks-untrack_pages, asks-page_record, asks-make_snapshot}
+use Rattle.handover.proofs.CallsAsk.{Asking, Setting, setting_asks, AskingTracked, asks_wxorx, asks_on_memory, asks_untrack_pages, asks_page_record, asks_make_snapshot}
 use Rattle.handover.proofs.CallsAsk as calls-ask
 pub use Rattle.handover.proofs.CallsAsk.{asks, sets, inits}
 use Rattle.handover.proofs.Effects.{Masked}
@@ -216,10 +216,10 @@ pub gentle_on_memory : {A : Type 0} (g : memory-op.Call A) → GentleCall g → 
 gentle_on_memory g a = asks_on_memory Gentle g a
 
 pub gentle_untrack_pages : (start size : ℕ) → GentleTracked (untrack_pages start size)
-gentle_untrack_pages start size = asks-untrack_pages gentle_tracked start size
+gentle_untrack_pages start size = asks_untrack_pages gentle_tracked start size
 
 pub gentle_page_record : (p : ℕ) → GentleTracked (page_record p)
-gentle_page_record p = asks-page_record gentle_tracked p
+gentle_page_record p = asks_page_record gentle_tracked p
 
 -- ---- calls on a machine
 
@@ -244,7 +244,7 @@ module _ (directory sources : List ℕ) where
 
 pub gentle_make_snapshot : (file pages : ℕ) → GentleMachineCall (make_snapshot file pages)
 gentle_make_snapshot file pages =
-    asks-make_snapshot
+    asks_make_snapshot
     (record { storage = gentle_tracked; registers = tt; version = tt; pc = tt; cycles = tt; maximum = tt })
     file
     pages

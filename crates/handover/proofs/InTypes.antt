@@ -41,7 +41,7 @@ use Rattle.handover.specs.Calls.{Named, round_page_up_call, round_page_down_call
 use Rattle.handover.specs.Reached.{TypedMemory, TypedNumbers, TypedNamed, Typed, Reached}
 use Rattle.handover.proofs.Ends.{each_map}
 use Rattle.handover.proofs.Asks.{asks-kept, asks_cond, asks-onwards, asks-after, asks-each, asks_in}
-use Rattle.handover.proofs.CallsAsk.{Asking, Setting, setting_asks, AskingTracked, AskingMachine, OnMemory, OnTracked, OnMachine, Kind, asks, sets, inits, kind, asks-set_flag, asks_wxorx, asks-init_pages, asks_on_memory, asks-untrack_pages, asks-page_record, asks-track_pages, asks-store_bytes, asks-mark_program, asks_on_machine, asks-make_snapshot}
+use Rattle.handover.proofs.CallsAsk.{Asking, Setting, setting_asks, AskingTracked, AskingMachine, OnMemory, OnTracked, OnMachine, Kind, asks, sets, inits, kind, asks_set_flag, asks_wxorx, asks_init_pages, asks_on_memory, asks_untrack_pages, asks_page_record, asks_track_pages, asks_store_bytes, asks_mark_program, asks_on_machine, asks_make_snapshot}
 use Rattle.handover.proofs.WellFormed.{fresh-done}
 
 -- ---- what a machine keeps
@@ -75,18 +75,18 @@ record MachineIn (m : LentMachine) : Type 0 where
 -- ---- each operation keeps it so
 
 -- a number written into a list
-set-any : (P : ℕ → Type 0) (l : List ℕ) (i x j : ℕ) → P x → P (get_or l j 0) → P (get_or (set l i x) j 0)
-set-any P [] i x j a b = b
-set-any P (y ∷ l) zero x zero a b = a
-set-any P (y ∷ l) zero x (suc j) a b = b
-set-any P (y ∷ l) (suc i) x zero a b = b
-set-any P (y ∷ l) (suc i) x (suc j) a b = set-any P l i x j a b
+set_any : (P : ℕ → Type 0) (l : List ℕ) (i x j : ℕ) → P x → P (get_or l j 0) → P (get_or (set l i x) j 0)
+set_any P [] i x j a b = b
+set_any P (y ∷ l) zero x zero a b = a
+set_any P (y ∷ l) zero x (suc j) a b = b
+set_any P (y ∷ l) (suc i) x zero a b = b
+set_any P (y ∷ l) (suc i) x (suc j) a b = set_any P l i x j a b
 
 abbrev Byte : ℕ → Type 0
 Byte x = x < 256
 
 flag-set : (flags : List ℕ) (p f : ℕ) → Byte f → Small flags → Small (set flags p f)
-flag-set flags p f h small i = set-any Byte flags p f i h (small i)
+flag-set flags p f h small i = set_any Byte flags p f i h (small i)
 
 or_byte : (f g : ℕ) → f < 256 → g < 256 → bit_or f g < 256
 or_byte f g h k = or_lt 8 f g h k
@@ -156,15 +156,15 @@ words-kept records p id offset mark a b c w =
     let two : List ℕ = set one (p * record_words + 1) offset in
     record {
       words = λ i.
-          set-any Word two (p * record_words + 2) mark i c
-          (set-any Word one (p * record_words + 1) offset i (omega arith) (set-any Word records (p * record_words) id i a (w.words i)));
+          set_any Word two (p * record_words + 2) mark i c
+          (set_any Word one (p * record_words + 1) offset i (omega arith) (set_any Word records (p * record_words) id i a (w.words i)));
       offsets = λ q.
           let x : get_or (set two (p * record_words + 2) mark) (q * record_words + 1) 0 ≡ get_or two (q * record_words + 1) 0 =
           get_or-set_other two (p * record_words + 2) (q * record_words + 1) mark 0 (omega arith) in
           let y : get_or one (q * record_words + 1) 0 ≡ get_or records (q * record_words + 1) 0 =
           get_or-set_other records (p * record_words) (q * record_words + 1) id 0 (omega arith) in
           rw x
-          (set-any (λ (n : ℕ). n + page_size ≤ top) one (p * record_words + 1) offset (q * record_words + 1) b (rw y (w.offsets q)));
+          (set_any (λ (n : ℕ). n + page_size ≤ top) one (p * record_words + 1) offset (q * record_words + 1) b (rw y (w.offsets q)));
     }
 
 marked-kept : (m : Tracked) (p f : ℕ) (records : List ℕ) → f < 256 → RecordsIn records → StorageIn m
@@ -249,7 +249,7 @@ numbers-kept (machine.register! i x) k n w =
     (λ e.
     numbers_in_types _ w.version_small w.pc_word w.next_pc_word w.cycles_word w.maximum_word
     (omega (arith, length-set n.registers i x, w.registers_are))
-    (λ j. set-any Word n.registers i x j k (w.register_words j)))
+    (λ j. set_any Word n.registers i x j k (w.register_words j)))
     (λ e. w)
 numbers-kept machine.pc? k n w = w
 numbers-kept (machine.pc! x) k n w =
@@ -285,8 +285,8 @@ asks-memory c k = go c (kind in_memory (λ p. omega arith) c (λ x e. subst Type
   where
     go : (c : memory.Named) → Kind InMemory c → TypedMemory c → OnMemory InMemory (memory.program c)
     go c (asks a) k = a
-    go c (sets p f) k = asks-set_flag in_memory p f k
-    go c (inits a size flags lead source) k = asks-init_pages in_memory a size flags lead source (λ p. k)
+    go c (sets p f) k = asks_set_flag in_memory p f k
+    go c (inits a size flags lead source) k = asks_init_pages in_memory a size flags lead source (λ p. k)
 
 -- ---- a resume asks what its snapshot says, which is in range
 
@@ -294,7 +294,7 @@ asks-store_run : (a flag : ℕ) (bytes : List ℕ) → flag < flag_values → On
 unfolding store_run set_flags
 asks-store_run a flag bytes h =
     asks-after InMemory (λ n. n) _ _ (asks_wxorx in_memory a bytes)
-    (asks-each InMemory (λ p. set_flag p flag) (λ p. asks-set_flag in_memory p flag h) _ _)
+    (asks-each InMemory (λ p. set_flag p flag) (λ p. asks_set_flag in_memory p flag h) _ _)
 
 asks-restore_source : (directory sources : List ℕ) (r : SourceRun) → SourceRanged r → OnTracked InAny (restore_source directory sources r)
 unfolding restore_source restore_data store_source
@@ -305,7 +305,7 @@ asks-restore_source directory sources r w =
     (asks-onwards InAny (λ n. n) _ d.number
     (asks_cond InAny (eqb (length bytes % page_size) 0) _ (ret 3)
     (asks-after InAny (λ n. n) _ _ (asks_on_memory InAny _ (asks-store_run r.address r.flag bytes w.flag_small))
-    (asks-track_pages in_storage r.id (λ p offset. w.id_word) r.address (length bytes) r.offset))
+    (asks_track_pages in_storage r.id (λ p offset. w.id_word) r.address (length bytes) r.offset))
     tt))
     tt
 
@@ -377,14 +377,14 @@ asks-named (memory_call c) k = asks_on_machine InMachine _ (asks_on_memory InAny
 asks-named (numbers_call o) k = (k, λ r. tt)
 asks-named (load_data_call directory sources id offset wanted) k = tt
 asks-named (track_pages_call start size id offset) k =
-    asks_on_machine InMachine _ (asks-track_pages in_storage id (λ p o. k) start size offset)
-asks-named (untrack_pages_call start size) k = asks_on_machine InMachine _ (asks-untrack_pages in_storage start size)
+    asks_on_machine InMachine _ (asks_track_pages in_storage id (λ p o. k) start size offset)
+asks-named (untrack_pages_call start size) k = asks_on_machine InMachine _ (asks_untrack_pages in_storage start size)
 asks-named (store_bytes_call directory sources a id offset wanted size_at) k =
-    asks_on_machine InMachine _ (asks-store_bytes in_storage id (λ p o. k) directory sources a offset wanted size_at)
+    asks_on_machine InMachine _ (asks_store_bytes in_storage id (λ p o. k) directory sources a offset wanted size_at)
 asks-named (mark_program_call actions id offset) k =
-    asks_on_machine InMachine _ (asks-mark_program in_storage id (λ p o. k) actions offset)
-asks-named (page_record_call p) k = asks_on_machine InMachine _ (asks-page_record in_storage p)
-asks-named (make_snapshot_call file pages) k = asks-make_snapshot in_machine (length file) (length pages)
+    asks_on_machine InMachine _ (asks_mark_program in_storage id (λ p o. k) actions offset)
+asks-named (page_record_call p) k = asks_on_machine InMachine _ (asks_page_record in_storage p)
+asks-named (make_snapshot_call file pages) k = asks_make_snapshot in_machine (length file) (length pages)
 asks-named (resume directory sources file page_file) k = asks-resume directory sources file page_file k.0 k.1
 
 -- a flag cleared is at most what it was
@@ -413,15 +413,15 @@ clear_kept p f m w =
       numbers = w.numbers;
     }
 
-given-kept : (g : Given) → Later g → Typed g → (m : LentMachine) → MachineIn m → MachineIn (answer g m).1
-given-kept (named c) l k m w = asks-kept InMachine machine_does MachineIn machine_op_kept (program c) (asks-named c k) m w
-given-kept (clear_flag_call p f) l k m w = clear_kept p f m w
-given-kept (fresh_call size version maximum) l k m w = absurd l
+given_kept : (g : Given) → Later g → Typed g → (m : LentMachine) → MachineIn m → MachineIn (answer g m).1
+given_kept (named c) l k m w = asks-kept InMachine machine_does MachineIn machine_op_kept (program c) (asks-named c k) m w
+given_kept (clear_flag_call p f) l k m w = clear_kept p f m w
+given_kept (fresh_call size version maximum) l k m w = absurd l
 
 calls-kept : (gs : List Given) → Each Later gs → Each Typed gs → (m : LentMachine) → MachineIn m → MachineIn (leaves gs m)
 unfolding leaves Each
 calls-kept [] l k m w = w
-calls-kept (g ∷ gs) l k m w = calls-kept gs l.1 k.1 _ (given-kept g l.0 k.0 m w)
+calls-kept (g ∷ gs) l k m w = calls-kept gs l.1 k.1 _ (given_kept g l.0 k.0 m w)
 
 -- ---- a fresh machine
 

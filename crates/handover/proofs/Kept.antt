@@ -45,7 +45,7 @@ use Rattle.handover.specs.Reached.{Typed}
 use Rattle.handover.specs.Sound.{SoundPage, SoundPages, is_dirty, is_blank, Sound}
 use Rattle.handover.specs.Keeping.{NothingLost, KeepsMemory, KeepsNamed, Keeps, Usual}
 use Rattle.handover.specs.Hosts.{Stopped}
-use Rattle.handover.proofs.WellFormed.{SameLengths, given-lengths, fresh-done}
+use Rattle.handover.proofs.WellFormed.{SameLengths, given_lengths, fresh-done}
 use Rattle.handover.proofs.Seen.{mask_twice, machine-seen, blank, fresh-seen}
 use Rattle.handover.proofs.Gentle.{Good, page-same, page-bytes, Step, stepped-good, flag_step, on_page_step, Kind, asks, sets, inits, kind, op_good, GentleTracked, gentle_kept, gentle_on_memory, gentle_untrack_pages, gentle_page_record, gentle_machine_kept, gentle_make_snapshot}
 use Rattle.handover.proofs.Reaching.{reached-whole, reached-fresh, reached_then}
@@ -104,10 +104,10 @@ fresh-sound directory sources slots flags area records size version maximum done
     }
 
 -- so the theorem's hypotheses are met: with a slot for every page it is stopped
-pub fresh-stopped : (directory sources slots flags area records : List ℕ) (size version maximum : ℕ)
+pub fresh_stopped : (directory sources slots flags area records : List ℕ) (size version maximum : ℕ)
     → (fresh slots flags area records size version maximum).0 ≡ 0 → version < versions → Word maximum → size ≤ length area
     → Stopped directory sources (fresh slots flags area records size version maximum).1
-fresh-stopped directory sources slots flags area records size version maximum done small word room =
+fresh_stopped directory sources slots flags area records size version maximum done small word room =
     let e = fresh-done slots flags area records size version maximum done in
     record {
       sound = fresh-sound directory sources slots flags area records size version maximum done small word;
@@ -227,7 +227,7 @@ unfolding leaves Each
 usual_sound directory sources [] usual m room s = s
 usual_sound directory sources (g ∷ gs) usual m room s =
     let u = usual.0 in
-    let e = given-lengths g u.0 m in
+    let e = given_lengths g u.0 m in
     usual_sound directory sources gs usual.1 _ (omega (arith, room, e.memory.size, e.memory.area))
     (sound-kept directory sources m g u.0 u.1 (u.2 m) room s)
 
@@ -259,7 +259,7 @@ module _ (directory sources : List ℕ) (a size flags start end lead id offset :
       first = (answer (named loads) m).1
 
       e : SameLengths m.0 first.0
-      e = given-lengths (named loads) tt m
+      e = given_lengths (named loads) tt m
 
       whole : WholeMachine m
       whole = reached-whole m s.reached room

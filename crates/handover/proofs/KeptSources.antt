@@ -33,7 +33,7 @@ use Rattle.handover.proofs.Gentle.{Good, page-same, same_step, gentle_kept, gent
 use Rattle.handover.proofs.Steps.{after_cases, then_kept, in_kept}
 use Rattle.handover.proofs.SourceData.{data_page, data_length}
 use Rattle.handover.proofs.Tracked.{memory_call}
-use Rattle.handover.proofs.KeptStores.{Stepped, Ran, store-ran, run_ran, stepped_kept, view-size}
+use Rattle.handover.proofs.KeptStores.{Stepped, Ran, store_ran, run_ran, stepped_kept, view-size}
 use Rattle.handover.proofs.KeptTracking.{track-kept}
 
 module _ (directory sources : List ℕ) where
@@ -174,7 +174,7 @@ module _ (directory sources : List ℕ) where
       (gentle_kept directory sources (untrack_pages a (length bytes)) (gentle_untrack_pages a (length bytes)) v w.good))
       (λ t u.
       still_whole (store_tracked a id offset bytes) t u
-      (stored-tracked id offset wanted t a (wxorx.store_bytes a bytes) found (store-ran t.memory a bytes u.whole) u.good))
+      (stored-tracked id offset wanted t a (wxorx.store_bytes a bytes) found (store_ran t.memory a bytes u.whole) u.good))
       ).good
     where
       bytes : List ℕ

@@ -203,9 +203,9 @@ pub record Ran (v : memory.View) (a : ℕ) (bytes : List ℕ) (r : ℕ × memory
   pub stepped : Stepped v r.1
   pub byte : r.0 ≡ 0 → (i : ℕ) → i < length bytes → r.1.byte (a + i) ≡ get_or bytes i 0
 
-pub store-ran : (v : memory.View) (a : ℕ) (bytes : List ℕ) → v.size % page_size ≡ 0
+pub store_ran : (v : memory.View) (a : ℕ) (bytes : List ℕ) → v.size % page_size ≡ 0
     → Ran v a bytes (run memory.does_v (wxorx.store_bytes a bytes) v)
-store-ran v a bytes whole =
+store_ran v a bytes whole =
     record {
       stepped = gentle_stepped (wxorx.store_bytes a bytes) (gentle_wxorx a bytes) v;
       byte = λ z. (wx_done v a bytes whole z).byte_inside;
@@ -223,7 +223,7 @@ run_ran v a f bytes whole aligned =
       stepped = λ q. step_then v t u q (stored-stepped v a bytes (run memory.does_v (wxorx.store_bytes a bytes) v) s q) (k.stepped q);
       byte = λ e i h. ap (λ (g : ℕ → ℕ). g (a + i)) k.byte ∙ s.byte_inside i h;
     })
-    (λ n. store-ran v a bytes whole)
+    (λ n. store_ran v a bytes whole)
   where
     t : memory.View
     t = (run memory.does_v (wxorx.store_bytes a bytes) v).1

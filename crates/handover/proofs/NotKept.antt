@@ -52,12 +52,12 @@ use Rattle.handover.specs.Calls.{Named, memory_call, track_pages_call, store_byt
 use Rattle.handover.specs.Reached.{Reached, TypedNamed, Typed}
 use Rattle.handover.specs.Sound.{page_in, source_gives, SoundPage, SoundPages, is_dirty, is_tracked, is_blank, Sound}
 use Rattle.handover.specs.Keeping.{Keeps}
-use Rattle.handover.proofs.WellFormed.{FreshFits, fresh_done, fresh-fits, given-lengths}
+use Rattle.handover.proofs.WellFormed.{FreshFits, fresh_done, fresh-fits, given_lengths}
 use Rattle.handover.proofs.Seen.{mask_clean, blank, fresh-seen, machine-seen}
 use Rattle.handover.proofs.Effects.{Masked, Tracks}
 use Rattle.handover.proofs.Effects as effects
 use Rattle.handover.proofs.Storing.{done_then, wx_stored}
-use Rattle.handover.proofs.Tracked.{remasked-masked, pages-tracked, RunStored, run-stored}
+use Rattle.handover.proofs.Tracked.{remasked-masked, pages_tracked, RunStored, run_stored}
 use Rattle.handover.proofs.Tracked as tracked_laws
 use Rattle.handover.proofs.SourceData.{data_none}
 use Rattle.handover.proofs.Reaching.{reached-whole, reached-fresh, reached_then}
@@ -98,7 +98,7 @@ seen_then w s c =
 
 shown_then : (w : MachineView) → Shown w → (c : Named) → TypedNamed c → Shown (run machine_does_v (program c) w).1
 shown_then w s c typed =
-    let e = given-lengths (named c) tt s.machine in
+    let e = given_lengths (named c) tt s.machine in
     record {
       machine = (answer (named c) s.machine).1;
       reached = reached_then s.machine s.reached (named c) tt typed;
@@ -139,10 +139,10 @@ flag_of Untracked = 0
 flag_of (Tracked id offset flag) = flag
 
 -- the first of some bytes
-span-front : (f : ℕ → ℕ) (a n : ℕ) → 0 < n → f a ≡ get_or (span f a n) 0 0
+span_front : (f : ℕ → ℕ) (a n : ℕ) → 0 < n → f a ≡ get_or (span f a n) 0 0
 unfolding span
-span-front f a zero h = absurd (omega arith)
-span-front f a (suc n) h = refl
+span_front f a zero h = absurd (omega arith)
+span_front f a (suc n) h = refl
 
 -- a page without the dirty flag
 module _ (directory sources : List ℕ) (v : View) (p : ℕ) (c : bit_and (v.memory.flag p) dirty ≡ 0) where
@@ -159,7 +159,7 @@ module _ (directory sources : List ℕ) (v : View) (p : ℕ) (c : bit_and (v.mem
   byte-lost : v.entry p ≡ Untracked → v.memory.byte (p * page_size) ≢ 0 → SoundPage directory sources v p → ⊥
   byte-lost e n =
       untracked-lost e
-      (λ z g. n (span-front _ _ _ (omega arith) ∙ ap (λ (l : List ℕ). get_or l 0 0) g ∙ filled_zero page_size 0))
+      (λ z g. n (span_front _ _ _ (omega arith) ∙ ap (λ (l : List ℕ). get_or l 0 0) g ∙ filled_zero page_size 0))
 
   -- tracked, with another flag or from another source
   tracked-lost : (id offset f : ℕ) → v.entry p ≡ Tracked id offset f
@@ -292,13 +292,13 @@ module _ (n : ℕ) (few : n ≤ 1024) where
       bytes_of (is_blank z t g) = g
 
 -- of one page
-one-page : 1 ≤ 1024
-one-page = omega arith
+one_page : 1 ≤ 1024
+one_page = omega arith
 
-unkept-fresh : (directory sources : List ℕ) (c : Named) → TypedNamed c
-    → Lost directory sources (run machine_does_v (program c) (blank_machine 1 one-page)).1.0 → Unkept directory sources (named c)
-unkept-fresh directory sources c typed lost =
-    unkept directory sources (blank_machine 1 one-page) (start 1 one-page) (start-sound 1 one-page directory sources) c typed lost
+unkept_fresh : (directory sources : List ℕ) (c : Named) → TypedNamed c
+    → Lost directory sources (run machine_does_v (program c) (blank_machine 1 one_page)).1.0 → Unkept directory sources (named c)
+unkept_fresh directory sources c typed lost =
+    unkept directory sources (blank_machine 1 one_page) (start 1 one_page) (start-sound 1 one_page directory sources) c typed lost
 
 -- ---- flags set
 
@@ -307,7 +307,7 @@ module _ (directory sources : List ℕ) (f : ℕ) (small : f < flag_values) (n :
   pub set-flag-unkept : Unkept directory sources (named (memory_call (memory-calls.set_flag_call 0 f)))
   unfolding run lift sparse.set_flag memory-op.fitting at_one masked
   set-flag-unkept =
-      unkept-fresh directory sources (memory_call (memory-calls.set_flag_call 0 f)) small
+      unkept_fresh directory sources (memory_call (memory-calls.set_flag_call 0 f)) small
       (omega arith, flag-lost directory sources _ 0 c (mask_clean f Untracked c) n)
 
   -- W^X init_pages that is refused 5: the second page is frozen, so that the first gets its flags and no bytes
@@ -333,15 +333,15 @@ module _ (directory sources : List ℕ) (x : ℕ) (n : x ≢ 0) where
   store : Named
   store = memory_call (memory-calls.store_bytes_call memory-calls.on_wxorx 0 (x ∷ []))
 
-  stored_to : Shown (run machine_does_v (program store) (blank_machine 1 one-page)).1
+  stored_to : Shown (run machine_does_v (program store) (blank_machine 1 one_page)).1
   unfolding store
-  stored_to = shown_then (blank_machine 1 one-page) (start 1 one-page) store tt
+  stored_to = shown_then (blank_machine 1 one_page) (start 1 one_page) store tt
 
   still_untracked : record_at stored_to.machine.0.1 0 ≡ Untracked
   unfolding store shown_then stored_to
   still_untracked =
-      ap (λ (l : List ℕ). record_at l 0) (records-same (wxorx.store_bytes 0 (x ∷ [])) (start 1 one-page).machine)
-      ∙ start-untracked 1 one-page 0
+      ap (λ (l : List ℕ). record_at l 0) (records-same (wxorx.store_bytes 0 (x ∷ [])) (start 1 one_page).machine)
+      ∙ start-untracked 1 one_page 0
 
   pub clear_dirty_unkept : Unkept directory sources (clear_flag_call 0 dirty)
   unfolding store run lift wxorx.store_bytes wxorx.permitted sparse.permits sparse.permit pages_within sparse.store sparse.store_over after bind each memory-op.fitting at_one memory.placed masked
@@ -349,7 +349,7 @@ module _ (directory sources : List ℕ) (x : ℕ) (n : x ≢ 0) where
       unkept_clear directory sources _ stored_to stored-sound 0 dirty (omega arith)
       (omega arith, byte-lost directory sources _ 0 refl still_untracked n)
     where
-      stored-sound : SoundPages directory sources (run machine_does_v (program store) (blank_machine 1 one-page)).1.0
+      stored-sound : SoundPages directory sources (run machine_does_v (program store) (blank_machine 1 one_page)).1.0
       stored-sound zero h = is_dirty (λ e. absurd (omega arith))
       stored-sound (suc p) h = absurd (omega arith)
 
@@ -357,19 +357,19 @@ module _ (directory sources : List ℕ) (x : ℕ) (n : x ≢ 0) where
 
 module _ (directory sources : List ℕ) (id : ℕ) (word : Word id) (other : source_gives directory sources id 0 ≢ filled page_size 0) where
   not_given : {f g : ℕ} → f ≡ g → source_gives directory sources id 0 ≡ page_in (blank page_size) 0 → ⊥
-  not_given e s = other (s ∙ blank-bytes 1 one-page 0 (omega arith))
+  not_given e s = other (s ∙ blank-bytes 1 one_page 0 (omega arith))
 
   pub track-pages-unkept : Unkept directory sources (named (track_pages_call 0 page_size id 0))
   unfolding run lift track_pages track track_whole after bind each fitting at_one entry_at
   track-pages-unkept =
-      unkept-fresh directory sources (track_pages_call 0 page_size id 0) word
+      unkept_fresh directory sources (track_pages_call 0 page_size id 0) word
       (omega arith, tracked-lost directory sources _ 0 refl id 0 0 refl not_given)
 
   -- the same by one action: address, size, flags, source start, source end, lead
   pub mark-program-unkept : Unkept directory sources (named (mark_program_call (0 ∷ page_size ∷ 0 ∷ 0 ∷ page_size ∷ 0 ∷ []) id 0))
   unfolding run lift mark_program mark_actions mark_action track_pages track track_whole after bind each fitting at_one entry_at
   mark-program-unkept =
-      unkept-fresh directory sources (mark_program_call (0 ∷ page_size ∷ 0 ∷ 0 ∷ page_size ∷ 0 ∷ []) id 0) word
+      unkept_fresh directory sources (mark_program_call (0 ∷ page_size ∷ 0 ∷ 0 ∷ page_size ∷ 0 ∷ []) id 0) word
       (omega arith, tracked-lost directory sources _ 0 refl id 0 0 refl not_given)
 
 -- ---- resume
@@ -383,9 +383,9 @@ zero_words (suc n) = (omega arith, zero_words n)
 abbrev pub runs_alone : List SourceRun → Snapshot
 runs_alone runs = record { state = kept 0 0 0 0 0; registers = filled general_registers 0; sources = runs; dirty = [] }
 
-runs-ranged : (runs : List SourceRun) → Each SourceRanged runs → least_records + (length runs + 0) ≤ most_records → Ranged (runs_alone runs)
+runs_ranged : (runs : List SourceRun) → Each SourceRanged runs → least_records + (length runs + 0) ≤ most_records → Ranged (runs_alone runs)
 unfolding page_file_of contents Each
-runs-ranged runs ranged few =
+runs_ranged runs ranged few =
     record {
       version_small = omega arith;
       pc_word = omega arith;
@@ -407,10 +407,10 @@ resumes directory sources s = resume directory sources (file_of s) (page_file_of
 resumes-typed : (directory sources : List ℕ) (s : Snapshot) → Ranged s → TypedNamed (resumes directory sources s)
 resumes-typed directory sources s ranged = (small-file_of s, ranged.pages_word)
 
-resumes-run : (directory sources : List ℕ) (s : Snapshot) → Ranged s → (w : MachineView)
+resumes_run : (directory sources : List ℕ) (s : Snapshot) → Ranged s → (w : MachineView)
     → run machine_does_v (program (resumes directory sources s)) w ≡ run machine_does_v (resume_from directory sources s) w
 unfolding run snapshot.resume
-resumes-run directory sources s ranged w =
+resumes_run directory sources s ranged w =
     let e = read_back s ranged in
     λ i. run machine_does_v (onwards (λ n. n) (resume_from directory sources (e.1 i)) (e.0 i)) w
 
@@ -421,7 +421,7 @@ module _ (directory sources : List ℕ) (id : ℕ) (word : Word id) (gives : sou
   mark-executable = memory_call (memory-calls.set_flag_call 0 (bit_or dirty executable))
 
   abbrev executable-seen : MachineView
-  executable-seen = (run machine_does_v (program mark-executable) (blank_machine 1 one-page)).1
+  executable-seen = (run machine_does_v (program mark-executable) (blank_machine 1 one_page)).1
 
   abbrev tracked-seen : MachineView
   tracked-seen = (run machine_does_v (program (track_pages_call 0 page_size id 0)) executable-seen).1
@@ -429,13 +429,13 @@ module _ (directory sources : List ℕ) (id : ℕ) (word : Word id) (gives : sou
   tracked : Shown tracked-seen
   unfolding mark-executable
   tracked =
-      shown_then executable-seen (shown_then (blank_machine 1 one-page) (start 1 one-page) mark-executable (omega arith))
+      shown_then executable-seen (shown_then (blank_machine 1 one_page) (start 1 one_page) mark-executable (omega arith))
       (track_pages_call 0 page_size id 0)
       word
 
   tracked-sound : SoundPages directory sources tracked-seen.0
   unfolding mark-executable run lift sparse.set_flag memory-op.fitting track_pages track track_whole after bind each fitting at_one entry_at
-  tracked-sound zero h = is_tracked id 0 refl refl (gives ∙ sym (blank-bytes 1 one-page 0 (omega arith)))
+  tracked-sound zero h = is_tracked id 0 refl refl (gives ∙ sym (blank-bytes 1 one_page 0 (omega arith)))
   tracked-sound (suc p) h = absurd (omega arith)
 
   -- clear_flag of another bit: the record has it still
@@ -451,11 +451,11 @@ module _ (directory sources : List ℕ) (id : ℕ) (word : Word id) (gives : sou
   pub resume-unkept : Unkept directory sources (named (resumes directory sources (runs_alone [])))
   unfolding mark-executable run lift sparse.set_flag memory-op.fitting track_pages track track_whole after bind each fitting at_one entry_at masked resume_from restore restore_numbers restore_pages restore_runs each_in sparse.set_lr Each
   resume-unkept =
-      let ranged : Ranged (runs_alone []) = runs-ranged [] tt (omega arith) in
+      let ranged : Ranged (runs_alone []) = runs_ranged [] tt (omega arith) in
       unkept directory sources tracked-seen tracked tracked-sound (resumes directory sources (runs_alone []))
       (resumes-typed directory sources (runs_alone []) ranged)
       (subst⁻¹ (λ (r : ℕ × MachineView). Lost directory sources r.1.0)
-      (resumes-run directory sources (runs_alone []) ranged tracked-seen)
+      (resumes_run directory sources (runs_alone []) ranged tracked-seen)
       (omega arith, flag-lost directory sources _ 0 refl refl (λ e. absurd (omega arith))))
 
 -- ---- other sources
@@ -495,7 +495,7 @@ module _ (id : ℕ) (bytes : List ℕ) (page : length bytes ≡ page_size) where
       left = (run does_v (track_pages 0 page_size id 0) u).1
 
       tk : Tracks u 0 1 id 0 (run does_v (track_pages 0 page_size id 0) u)
-      tk = pages-tracked u 0 1 id 0 (omega arith) (omega arith) (omega arith)
+      tk = pages_tracked u 0 1 id 0 (omega arith) (omega arith) (omega arith)
 
       flag : left.memory.flag 0 ≡ cleared (u.memory.flag 0) dirty
       flag = tk.flag_inside 0 (omega arith) (omega arith)
@@ -524,7 +524,7 @@ module _ (id : ℕ) (bytes : List ℕ) (page : length bytes ≡ page_size) where
     where
       st : RunStored (blank page_size) 0 0 bytes (run does_v (on_memory (store_run 0 0 bytes)) (blank page_size))
       st =
-          run-stored (blank page_size) 0 0 bytes (λ q. mask_clean 0 Untracked refl) (omega arith) (omega arith) (omega arith) (omega arith)
+          run_stored (blank page_size) 0 0 bytes (λ q. mask_clean 0 Untracked refl) (omega arith) (omega arith) (omega arith) (omega arith)
           (λ q a b. refl)
 
   -- "Last, the reservation."
@@ -605,7 +605,7 @@ module _ (directory sources d s : List ℕ) (id : ℕ) (word : Word id) (page : 
 
   pub store-bytes-unkept : Unkept directory sources (named (store_bytes_call d s 0 id 0 page_size 0))
   store-bytes-unkept =
-      unkept-fresh directory sources (store_bytes_call d s 0 id 0 page_size 0) word
+      unkept_fresh directory sources (store_bytes_call d s 0 id 0 page_size 0) word
       (subst⁻¹ (λ (r : Stored × MachineView). Lost directory sources r.1.0)
       (lift-run does_v (beside machine.does) (store_bytes d s 0 id 0 page_size 0) (blank page_size) (fresh_numbers 0 0))
       (given-lost _ bytes_stored))
@@ -638,17 +638,17 @@ module _ (directory sources d s : List ℕ) (id : ℕ) (word : Word id) (page : 
   run-ranged : Ranged (runs_alone (page_one_run id ∷ []))
   unfolding Each
   run-ranged =
-      runs-ranged (page_one_run id ∷ [])
+      runs_ranged (page_one_run id ∷ [])
       (record { address_word = omega arith; flag_small = omega arith; id_word = word; offset_word = omega arith; size_word = omega arith }, tt)
       (omega arith)
 
   pub resume-other-unkept : Unkept directory sources (named (resumes d s (runs_alone (page_one_run id ∷ []))))
   unfolding run resume_from restore restore_numbers
   resume-other-unkept =
-      unkept-fresh directory sources (resumes d s (runs_alone (page_one_run id ∷ [])))
+      unkept_fresh directory sources (resumes d s (runs_alone (page_one_run id ∷ [])))
       (resumes-typed d s (runs_alone (page_one_run id ∷ [])) run-ranged)
       (subst⁻¹ (λ (r : ℕ × MachineView). Lost directory sources r.1.0)
-      (resumes-run d s (runs_alone (page_one_run id ∷ [])) run-ranged (blank_machine 1 one-page)
+      (resumes_run d s (runs_alone (page_one_run id ∷ [])) run-ranged (blank_machine 1 one_page)
       ∙ lift-run does_v (beside machine.does) (restore_pages d s (runs_alone (page_one_run id ∷ []))) (blank page_size) _)
       (given-lost _ pages-restored))
 
@@ -664,14 +664,14 @@ item = item_id ∷ 0 ∷ page_size ∷ []
 abbrev pub zeros : List ℕ
 zeros = filled page_size 0
 
-item-given : source_gives item zeros item_id 0 ≡ zeros
+item_given : source_gives item zeros item_id 0 ≡ zeros
 unfolding find_data among data_in
-item-given =
+item_given =
     ap (λ (room : ℕ). data_of zeros (find_data item room item_id 0 page_size)) (length-filled page_size 0)
     ∙ take_all page_size zeros (omega (arith, length-filled page_size 0))
 
 item-page : length (source_gives item zeros item_id 0) ≡ page_size
-item-page = ap length item-given ∙ length-filled page_size 0
+item-page = ap length item_given ∙ length-filled page_size 0
 
 -- no directory, or no source bytes: nothing is given
 no_directory : (sources : List ℕ) → source_gives [] sources item_id 0 ≡ []
@@ -709,14 +709,14 @@ needed =
       set_flag_call = set-flag-unkept [] [] executable (omega arith) (λ e. absurd (omega arith)) refl;
       init_pages_call = init_pages_unkept [] [] executable (omega arith) (λ e. absurd (omega arith)) refl;
       clear_dirty = clear_dirty_unkept [] [] 1 (λ e. absurd (omega arith));
-      clear_other = clear_flag_unkept item zeros item_id (omega arith) item-given;
+      clear_other = clear_flag_unkept item zeros item_id (omega arith) item_given;
       track = track-pages-unkept [] [] item_id (omega arith) untrackable;
       mark = mark-program-unkept [] [] item_id (omega arith) untrackable;
       store_directory = store-bytes-unkept [] zeros item zeros item_id (omega arith) item-page other_directory;
       store_sources = store-bytes-unkept item [] item zeros item_id (omega arith) item-page other-sources;
       resume_directory = resume-other-unkept [] zeros item zeros item_id (omega arith) item-page other_directory;
       resume_sources = resume-other-unkept item [] item zeros item_id (omega arith) item-page other-sources;
-      resume_tracked = resume-unkept item zeros item_id (omega arith) item-given;
+      resume_tracked = resume-unkept item zeros item_id (omega arith) item_given;
     }
   where
     untrackable : source_gives [] [] item_id 0 ≢ zeros

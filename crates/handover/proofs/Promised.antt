@@ -38,13 +38,13 @@ with_numbers m r = (r.0, (r.1, m.1))
 abbrev pub with_memory : {A : Type 0} → LentMachine → A × Numbers → A × LentMachine
 with_memory m r = (r.0, (m.0, r.1))
 
-on-tracked : {A : Type 0} (g : Call A) (m : LentMachine) → run machine_does (lift g) m ≡ with_numbers m (run does g m.0)
-on-tracked g m = lift-run does (beside machine.does) g m.0 m.1
+on_tracked : {A : Type 0} (g : Call A) (m : LentMachine) → run machine_does (lift g) m ≡ with_numbers m (run does g m.0)
+on_tracked g m = lift-run does (beside machine.does) g m.0 m.1
 
-on-pages : {A : Type 0} (g : memory-op.Call A) (m : LentMachine)
+on_pages : {A : Type 0} (g : memory-op.Call A) (m : LentMachine)
     → run machine_does (lift (on_memory g)) m ≡ with_rest m (run memory-op.does g m.0.0)
-on-pages {A} g m =
-    on-tracked (on_memory g) m ∙ ap (λ (r : A × Tracked). with_numbers m r) (lift-run memory-op.does owns g m.0.0 m.0.1)
+on_pages {A} g m =
+    on_tracked (on_memory g) m ∙ ap (λ (r : A × Tracked). with_numbers m r) (lift-run memory-op.does owns g m.0.0 m.0.1)
 
 -- a call on the memory, and its definition
 abbrev OnMemory : LentMachine → (c : memory.Named) → memory-op.Call (memory.Answers c) → Type 0
@@ -121,18 +121,18 @@ pub record Promised (m : LentMachine) : Type 0 where
         },
         m,
       )
-  pub pages-tracked : (start size id offset : ℕ) → OnTracked m (track_pages_call start size id offset) (tracking.track_pages start size id offset)
-  pub pages-untracked : (start size : ℕ) → OnTracked m (untrack_pages_call start size) (tracking.untrack_pages start size)
-  pub context-stored : (directory sources : List ℕ) (a id offset wanted size_at : ℕ)
+  pub pages_tracked : (start size id offset : ℕ) → OnTracked m (track_pages_call start size id offset) (tracking.track_pages start size id offset)
+  pub pages_untracked : (start size : ℕ) → OnTracked m (untrack_pages_call start size) (tracking.untrack_pages start size)
+  pub context_stored : (directory sources : List ℕ) (a id offset wanted size_at : ℕ)
       → OnTracked m (store_bytes_call directory sources a id offset wanted size_at) (tracking.store_bytes directory sources a id offset wanted size_at)
-  pub program-marked : (actions : List ℕ) (id offset : ℕ) → OnTracked m (mark_program_call actions id offset) (tracking.mark_program actions id offset)
+  pub program_marked : (actions : List ℕ) (id offset : ℕ) → OnTracked m (mark_program_call actions id offset) (tracking.mark_program actions id offset)
   pub record_read : (p : ℕ) → OnTracked m (page_record_call p) (tracking.page_record p)
   -- snapshot/src, with the outputs as the call leaves them
-  pub snapshot-made : (file pages : List ℕ)
+  pub snapshot_made : (file pages : List ℕ)
       → answer (named (make_snapshot_call file pages)) m ≡ run machine_does (make_snapshot (length file) (length pages)) m
-  pub snapshot-outputs : (file pages : List ℕ) (x : Answers (make_snapshot_call file pages))
+  pub snapshot_outputs : (file pages : List ℕ) (x : Answers (make_snapshot_call file pages))
       → (told (named (make_snapshot_call file pages)) x).outputs ≡ written file 0 x.file ∷ written pages 0 x.body ∷ []
-  pub machine-resumed : (directory sources file page_file : List ℕ)
+  pub machine_resumed : (directory sources file page_file : List ℕ)
       → answer (named (resume directory sources file page_file)) m ≡ run machine_does (snapshot.resume directory sources file page_file) m
 
 pub promised : (m : LentMachine) → Promised m
@@ -142,28 +142,28 @@ promised m =
       round_up = λ a. refl;
       round_down = λ a. refl;
       indices = λ a n. refl;
-      check_permission_call = λ first last want. on-pages (check_permission first last want) m;
-      set_dirty_call = λ first last. on-pages (set_dirty first last) m;
-      fill_page_data_call = λ a size lead source. on-pages (fill_page_data a size lead source) m;
-      sparse_init_pages = λ a size flags lead source. on-pages (fill_page_data a size lead source) m;
-      wxorx_init_pages = λ a size flags lead source. on-pages (wxorx.init_pages a size flags lead source) m;
-      fetch_flag_call = λ p. on-pages (fetch_flag p) m;
-      set_flag_call = λ p f. on-pages (set_flag p f) m;
+      check_permission_call = λ first last want. on_pages (check_permission first last want) m;
+      set_dirty_call = λ first last. on_pages (set_dirty first last) m;
+      fill_page_data_call = λ a size lead source. on_pages (fill_page_data a size lead source) m;
+      sparse_init_pages = λ a size flags lead source. on_pages (fill_page_data a size lead source) m;
+      wxorx_init_pages = λ a size flags lead source. on_pages (wxorx.init_pages a size flags lead source) m;
+      fetch_flag_call = λ p. on_pages (fetch_flag p) m;
+      set_flag_call = λ p f. on_pages (set_flag p f) m;
       clear_a_flag = λ p f. refl;
       memory_size_call = refl;
       memory_pages_call = refl;
-      sparse_store_byte = λ a n v. on-pages (sparse.store_byte a n v) m;
-      wxorx_store_byte = λ a n v. on-pages (wxorx.store_byte a n v) m;
-      sparse_store_bytes = λ a bytes. on-pages (sparse.store_bytes a bytes) m;
-      wxorx_store_bytes = λ a bytes. on-pages (wxorx.store_bytes a bytes) m;
-      sparse_store_wide = λ n a x. on-pages (sparse.store_wide n a x) m;
-      wxorx_store_wide = λ n a x. on-pages (wxorx.store_wide n a x) m;
-      load_wide_call = λ n a. on-pages (load_wide n a) m;
-      sparse_execute_load = λ n a. on-pages (load_wide n a) m;
-      wxorx_execute_load = λ n a. on-pages (wxorx.execute_load n a) m;
-      load_bytes_call = λ a n out. on-pages (load_bytes a n (length out)) m;
+      sparse_store_byte = λ a n v. on_pages (sparse.store_byte a n v) m;
+      wxorx_store_byte = λ a n v. on_pages (wxorx.store_byte a n v) m;
+      sparse_store_bytes = λ a bytes. on_pages (sparse.store_bytes a bytes) m;
+      wxorx_store_bytes = λ a bytes. on_pages (wxorx.store_bytes a bytes) m;
+      sparse_store_wide = λ n a x. on_pages (sparse.store_wide n a x) m;
+      wxorx_store_wide = λ n a x. on_pages (wxorx.store_wide n a x) m;
+      load_wide_call = λ n a. on_pages (load_wide n a) m;
+      sparse_execute_load = λ n a. on_pages (load_wide n a) m;
+      wxorx_execute_load = λ n a. on_pages (wxorx.execute_load n a) m;
+      load_bytes_call = λ a n out. on_pages (load_bytes a n (length out)) m;
       load_bytes_output = λ a n out x. refl;
-      load_c_string_call = λ a out. on-pages (load_c_string a (length out)) m;
+      load_c_string_call = λ a out. on_pages (load_c_string a (length out)) m;
       load_c_string_output = λ a out x. refl;
       get_lr_call = refl;
       set_lr_call = λ x. refl;
@@ -181,12 +181,12 @@ promised m =
       max_cycles = refl;
       set_max_cycles_call = λ x. refl;
       data_loaded = λ directory sources id offset wanted. refl;
-      pages-tracked = λ start size id offset. on-tracked (tracking.track_pages start size id offset) m;
-      pages-untracked = λ start size. on-tracked (tracking.untrack_pages start size) m;
-      context-stored = λ directory sources a id offset wanted size_at. on-tracked (tracking.store_bytes directory sources a id offset wanted size_at) m;
-      program-marked = λ actions id offset. on-tracked (tracking.mark_program actions id offset) m;
-      record_read = λ p. on-tracked (tracking.page_record p) m;
-      snapshot-made = λ file pages. refl;
-      snapshot-outputs = λ file pages x. refl;
-      machine-resumed = λ directory sources file page_file. refl;
+      pages_tracked = λ start size id offset. on_tracked (tracking.track_pages start size id offset) m;
+      pages_untracked = λ start size. on_tracked (tracking.untrack_pages start size) m;
+      context_stored = λ directory sources a id offset wanted size_at. on_tracked (tracking.store_bytes directory sources a id offset wanted size_at) m;
+      program_marked = λ actions id offset. on_tracked (tracking.mark_program actions id offset) m;
+      record_read = λ p. on_tracked (tracking.page_record p) m;
+      snapshot_made = λ file pages. refl;
+      snapshot_outputs = λ file pages x. refl;
+      machine_resumed = λ directory sources file page_file. refl;
     }

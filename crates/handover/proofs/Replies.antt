@@ -24,7 +24,7 @@ use Rattle.tracking.specs.Operations.{Op, Reply, lengths?, entry?, track!, drop!
 use Rattle.tracking.proofs.Lengths.{memory-told}
 use Rattle.handover.specs.View.{WellFormed, Whole}
 use Rattle.handover.proofs.Ends.{CanPlus}
-use Rattle.handover.proofs.WellFormed.{SameLengths, lengths-same, lengths_then, whole-formed, lengths-reply, op_lengths, op_kept, op_whole}
+use Rattle.handover.proofs.WellFormed.{SameLengths, lengths-same, lengths_then, whole-formed, lengths_reply, op_lengths, op_kept, op_whole}
 
 -- where lengths can be wrong or a slot number wild, and where slots can run out
 module _ (Wrong Full : Type 0) where
@@ -140,8 +140,8 @@ module _ (Wrong Full : Type 0) where
     reply : (o : AnyOp) (t : Tracked) → SameLengths m t → Sort t → Can m o (does o t).0
     unfolding flag_in or_flag track_page drop_page
     reply (low memory-op.lengths?) t l (any w f) = λ e. w
-    reply (low memory-op.lengths?) t l (formed w f) = right _ (memory-replies.lengths-reply t.0 w.memory)
-    reply (low memory-op.lengths?) t l (whole w) = right _ (memory-replies.lengths-reply t.0 w.memory.formed)
+    reply (low memory-op.lengths?) t l (formed w f) = right _ (memory-replies.lengths_reply t.0 w.memory)
+    reply (low memory-op.lengths?) t l (whole w) = right _ (memory-replies.lengths_reply t.0 w.memory.formed)
     reply (low memory-op.size?) t l s = l.memory.size
     reply (low memory-op.lr?) t l s = tt
     reply (low (memory-op.flag? p)) t l s =
@@ -158,8 +158,8 @@ module _ (Wrong Full : Type 0) where
         cases (λ (r : ℕ × State). Done r.0) (ltb p (length t.0.flags)) _ _ (λ b. inl refl) (λ b. inr refl)
     reply (low (memory-op.lr! x)) t l s = refl
     reply (own lengths?) t l (any w f) = checked t l (λ e. w)
-    reply (own lengths?) t l (formed w f) = checked t l (right _ (lengths-reply t w))
-    reply (own lengths?) t l (whole w) = checked t l (right _ (lengths-reply t (whole-formed t w)))
+    reply (own lengths?) t l (formed w f) = checked t l (right _ (lengths_reply t w))
+    reply (own lengths?) t l (whole w) = checked t l (right _ (lengths_reply t (whole-formed t w)))
     reply (own (entry? p)) t l s = tt
     reply (own (track! p id offset)) t l s =
         cases Q (ltb p (length t.0.flags)) _ _

@@ -29,8 +29,8 @@ use Rattle.handover.specs.Sound.{SoundPage, is_dirty, is_tracked, is_blank, Soun
 use Rattle.handover.proofs.Seen.{mask_clean, mask_dirty}
 use Rattle.handover.proofs.Effects.{Masked, Tracks}
 use Rattle.handover.proofs.Storing.{done_then}
-use Rattle.handover.proofs.Tracked.{RunStored, run-stored, pages-tracked}
-use Rattle.snapshot.proofs.RunPages.{SourceFront, DirtyFront, front-offset}
+use Rattle.handover.proofs.Tracked.{RunStored, run_stored, pages_tracked}
+use Rattle.snapshot.proofs.RunPages.{SourceFront, DirtyFront, front_offset}
 use Rattle.handover.proofs.SourceData.{run_data}
 
 -- ---- flags
@@ -111,7 +111,7 @@ module _ (t v : View) (first n f : ℕ) where
       → RunStored v first f (pages_in t first n) (run does_v (on_memory (store_run (first * page_size) f (pages_in t first n))) v)
   pages-stored dark whole small within blank =
       let l = long in
-      run-stored v first f (pages_in t first n) dark whole small (omega arith) (omega arith)
+      run_stored v first f (pages_in t first n) dark whole small (omega arith) (omega arith)
       (λ q a b. let z : v.memory.flag q ≡ 0 = blank q a (omega arith) in rw z)
 
   module _ (r : ℕ × View) (s : RunStored v first f (pages_in t first n) r) where
@@ -328,8 +328,8 @@ module _ (directory sources : List ℕ) (t : View) (right : Right directory sour
           let s = pages-stored t v first n f dark (rw size_is right.whole) (rw size_is right.small) (rw size_is within) blank in
           let r : ℕ × View = run does_v (on_memory (store_run (first * page_size) f (pages_in t first n))) v in
           let e : r.1.memory.size ≡ t.memory.size = s.size ∙ size_is in
-          let o = front-offset t.entry (page_count t) p top _ (λ q i o g h k. right.offsets q i o g k) front in
-          let k = pages-tracked r.1 first n id offset (rw e within) (rw e right.small) o in
+          let o = front_offset t.entry (page_count t) p top _ (λ q i o g h k. right.offsets q i o g k) front in
+          let k = pages_tracked r.1 first n id offset (rw e within) (rw e right.small) o in
           rw (done_then does_v _ (track_pages (first * page_size) (length (pages_in t first n)) id offset) v s.done, long t v first n f)
           (source_effect first n f r s blank id offset _ k within tracked)
 

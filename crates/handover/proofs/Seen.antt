@@ -36,7 +36,7 @@ use Rattle.tracking.specs.Operations.{lengths?, entry?, track!, drop!, drop_all!
 use Rattle.recordfile.specs.Snapshots.{Each}
 use Rattle.handover.specs.View.{Whole, View, view, remasked, entry_at, tracked_v, does_v, clear_flag_v, MachineView, view_machine, WholeMachine, machine_does_v}
 use Rattle.handover.specs.Calls.{Named, program, Given, named, clear_flag_call, fresh_call, clear_flag, Later, Careful, answer, Told, told, answers, leaves}
-use Rattle.handover.proofs.WellFormed.{whole-formed, lengths-reply, marked-whole, op_whole, clear_whole, given-whole, fresh-told, fresh-done}
+use Rattle.handover.proofs.WellFormed.{whole-formed, lengths_reply, marked-whole, op_whole, clear_whole, given_whole, fresh-told, fresh-done}
 
 -- ---- the record of a dirty page is not seen
 
@@ -224,7 +224,7 @@ pub like : (o : AnyOp) (m : Tracked) → Whole m → Like Whole view (does o m) 
 like (low o) m w =
     below m _ _ (memory-laws.like o m.0 w.memory) (memory-laws.op_dirty o (memory.view m.0)) m.1 (op_whole (low o) m w)
     (λ q. refl)
-like (own lengths?) m w = looks m w _ _ (lengths-reply m (whole-formed m w))
+like (own lengths?) m w = looks m w _ _ (lengths_reply m (whole-formed m w))
 like (own (entry? p)) m w = looks m w _ _ refl
 like (own (track! p id offset)) m w = track-like m w p id offset
 like (own (drop! p)) m w = drop-like m w p
@@ -309,7 +309,7 @@ unfolding answers leaves Each
 equal_calls [] k m n wm wn e = (refl, e)
 equal_calls (g ∷ gs) k m n wm wn e =
     let h = equal_given g k.0 m n wm wn e in
-    let r = equal_calls gs k.1 _ _ (given-whole g (careful_later g k.0) m wm) (given-whole g (careful_later g k.0) n wn) h.1 in
+    let r = equal_calls gs k.1 _ _ (given_whole g (careful_later g k.0) m wm) (given_whole g (careful_later g k.0) n wn) h.1 in
     (ap₂ {C = List Told} (λ x l. told g x ∷ l) h.0 r.0, r.1)
 
 -- ---- a fresh machine
@@ -334,11 +334,11 @@ module _ (slots flags area records : List ℕ) (size version maximum : ℕ)
       ))
 
 -- whatever was in the storage lent for it
-pub fresh-alike : (slots flags area records slots₂ flags₂ area₂ records₂ : List ℕ) (size version maximum : ℕ)
+pub fresh_alike : (slots flags area records slots₂ flags₂ area₂ records₂ : List ℕ) (size version maximum : ℕ)
     → (fresh slots flags area records size version maximum).0 ≡ 0
     → (fresh slots₂ flags₂ area₂ records₂ size version maximum).0 ≡ 0
     → view_machine (fresh slots flags area records size version maximum).1
     ≡ view_machine (fresh slots₂ flags₂ area₂ records₂ size version maximum).1
-fresh-alike slots flags area records slots₂ flags₂ area₂ records₂ size version maximum d e =
+fresh_alike slots flags area records slots₂ flags₂ area₂ records₂ size version maximum d e =
     fresh-seen slots flags area records size version maximum d
     ∙ sym (fresh-seen slots₂ flags₂ area₂ records₂ size version maximum e)

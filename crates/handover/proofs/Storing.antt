@@ -201,11 +201,11 @@ page-stored v a bytes whole fits some =
     (stored_one v a (take (in_page a (length bytes)) bytes) (rw length-take (omega arith)) (rw length-take (omega arith)))
 
 -- as many pages as bytes are enough
-over-stored : (pages : ℕ) (v : memory.View) (a : ℕ) (bytes : List ℕ) → length bytes ≤ pages → v.size % page_size ≡ 0
+over_stored : (pages : ℕ) (v : memory.View) (a : ℕ) (bytes : List ℕ) → length bytes ≤ pages → v.size % page_size ≡ 0
     → a + length bytes ≤ v.size → Stored v a bytes (run memory.does_v (sparse.store_over pages a bytes) v)
 unfolding run sparse.store_over
-over-stored zero v a bytes few whole fits = stored_none v a bytes (omega arith)
-over-stored (suc pages) v a bytes few whole fits =
+over_stored zero v a bytes few whole fits = stored_none v a bytes (omega arith)
+over_stored (suc pages) v a bytes few whole fits =
     cases (λ g. Stored v a bytes (run memory.does_v g v)) (eqb (length bytes) 0) _ _
     (λ e. stored_none v a bytes (eqb-true _ _ e))
     (λ e.
@@ -216,7 +216,7 @@ over-stored (suc pages) v a bytes few whole fits =
     let w : memory.View = (run memory.does_v (perform (part! a bytes)) v).1 in
     let z : w.size ≡ v.size = s.size in
     let u : Stored w (a + n) (drop n bytes) (run memory.does_v (sparse.store_over pages (a + n) (drop n bytes)) w) =
-    over-stored pages w (a + n) (drop n bytes) (omega (arith, length-drop n bytes)) (rw z whole) (omega (arith, length-drop n bytes)) in
+    over_stored pages w (a + n) (drop n bytes) (omega (arith, length-drop n bytes)) (rw z whole) (omega (arith, length-drop n bytes)) in
     subst (λ (l : List ℕ). Stored v a l (run memory.does_v (and_then (perform (part! a bytes)) (sparse.store_over pages (a + n) (drop n bytes))) v))
     (take-append-drop n bytes)
     (stores_then v a (take n bytes) (drop n bytes) (perform (part! a bytes)) (sparse.store_over pages (a + n) (drop n bytes)) s
@@ -225,7 +225,7 @@ over-stored (suc pages) v a bytes few whole fits =
 pub store_stored : (v : memory.View) (a : ℕ) (bytes : List ℕ) → v.size % page_size ≡ 0 → a + length bytes ≤ v.size
     → Stored v a bytes (run memory.does_v (sparse.store a bytes) v)
 unfolding sparse.store
-store_stored v a bytes whole fits = over-stored (length bytes) v a bytes (omega arith) whole fits
+store_stored v a bytes whole fits = over_stored (length bytes) v a bytes (omega arith) whole fits
 
 -- ---- a W^X store
 

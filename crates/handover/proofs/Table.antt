@@ -227,10 +227,10 @@ marks_none id offset mark (suc (suc (suc (suc p)))) n =
     rw z
 
 -- so page 1 is tracked, and no other
-page-one : (slots area : List ℕ) (id offset : ℕ) (r : ℕ × Tracked) → r ≡ (0, on_page_one slots area id offset)
+page_one : (slots area : List ℕ) (id offset : ℕ) (r : ℕ × Tracked) → r ≡ (0, on_page_one slots area id offset)
     → PageOne (blank slots area) id offset r
 unfolding masked record_of
-page-one slots area id offset r e =
+page_one slots area id offset r e =
     subst⁻¹ (PageOne (blank slots area) id offset) e
     (record {
       number = refl;
@@ -246,9 +246,9 @@ blank-tracks slots area id offset fit =
       flags = refl;
       untracked = λ p. mark_none zeros (words 0 0 0) p (marks_none 0 0 0 p (λ t. refl));
       short = short-run slots area id offset fit;
-      whole = λ h. page-one slots area id offset _ (whole_run slots area id offset fit h);
+      whole = λ h. page_one slots area id offset _ (whole_run slots area id offset fit h);
       head = head-run slots area id offset fit;
-      across = λ h. page-one slots area id (offset + 3996) _ (across-run slots area id offset fit h);
+      across = λ h. page_one slots area id (offset + 3996) _ (across-run slots area id offset fit h);
     }
 
 -- ---- a fresh machine of 4 pages

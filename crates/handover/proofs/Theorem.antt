@@ -38,12 +38,12 @@ use Rattle.handover.specs.Reached.{Reached}
 use Rattle.handover.specs.Sound.{SoundPages}
 use Rattle.handover.specs.Hosts.{Stopped, FreshHost, LongEnough, machine_snapshot, snapped, record_file_left, page_file_left, resumed, Agree}
 use Rattle.handover.specs.Theorem.{HandedOver, ReadsBack, Theorem}
-use Rattle.handover.proofs.WellFormed.{lengths-reply, machine-lengths, fresh-done}
+use Rattle.handover.proofs.WellFormed.{lengths_reply, machine-lengths, fresh-done}
 use Rattle.handover.proofs.Seen.{blank, fresh-seen, machine-seen}
 use Rattle.handover.proofs.Reaching.{reached-formed, reached-whole, reached-fresh, reached_then}
 use Rattle.handover.proofs.InTypes.{InTypes, reached_in_types}
 use Rattle.handover.proofs.Restoring.{read_seen, restored}
-use Rattle.handover.proofs.Agreeing.{seen-agree, further, view-right}
+use Rattle.handover.proofs.Agreeing.{seen-agree, further, view_right}
 
 -- ---- a snapshot of a machine that our calls reached
 
@@ -115,7 +115,7 @@ module _ (m : LentMachine) (r : Reached m) where
     snapped-is =
         sym
         (made-now m.0.0.slots m.0.0.flags m.0.0.area m.0.1 (machine_of m.1 m.0.0.memory) true
-        (sym (lengths-reply m.0 formed)) (length file) (length pages) refl 0 true (sym all-met) refl refl)
+        (sym (lengths_reply m.0 formed)) (length file) (length pages) refl 0 true (sym all-met) refl refl)
 
     made-is : (snapped m file pages).0 ≡ laid_out (length file) (length pages) (machine_snapshot m)
     made-is = ap (λ (x : Made × LentMachine). x.0) snapped-is
@@ -170,7 +170,7 @@ module _ (directory sources : List ℕ) (m : LentMachine) (stopped : Stopped dir
   pages-restored =
       let fit = (reached-formed m stopped.sound.reached).memory.fit in
       let e : length m.0.0.flags - 0 ≡ m.0.0.memory.size / page_size = omega (arith, fit.flags_are) in
-      restored directory sources seen (view-right directory sources m stopped.sound) (machine_snapshot m)
+      restored directory sources seen (view_right directory sources m stopped.sound) (machine_snapshot m)
       (ap (λ (n : ℕ). source_runs 0 (along (entry_in m.0.0.flags m.0.1) n 0)) e)
       (ap (λ (n : ℕ). map (read_seen seen.memory.byte) (dirty_runs 0 (along (flag_at m.0.0.flags) n 0))) e)
       refl

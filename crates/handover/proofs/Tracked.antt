@@ -53,8 +53,8 @@ memory_call (ask o k) v m =
     memory_call (k r.0) (remasked v r).1 (remasked-masked v r)
     ∙ remasked_twice v r (run memory.does_v (k r.0) r.1) (program-dirty (k r.0) r.1)
 
-pub after-memory : {A : Type 0} (g : memory-op.Call A) (v : View) → Masked v → Masked (run does_v (on_memory g) v).1
-after-memory {A} g v m =
+pub after_memory : {A : Type 0} (g : memory-op.Call A) (v : View) → Masked v → Masked (run does_v (on_memory g) v).1
+after_memory {A} g v m =
     subst⁻¹ (λ (r : A × View). Masked r.1) (memory_call g v m) (remasked-masked v (run memory.does_v g v.memory))
 
 -- ---- pages tracked in turn
@@ -143,11 +143,11 @@ track-is first n id offset h k =
     let c : offset + 0 ≡ offset = omega arith in
     rw (d, le-ltb (n * page_size) 0 (omega arith), le-ltb (2 ^ 64 - page_size) (first * page_size) h, a, b, c, le-ltb top offset k)
 
-pub pages-tracked : (v : View) (first n id offset : ℕ) → first + n ≤ v.memory.size / page_size → v.memory.size ≤ maximum
+pub pages_tracked : (v : View) (first n id offset : ℕ) → first + n ≤ v.memory.size / page_size → v.memory.size ≤ maximum
     → offset + n * page_size ≤ top
     → Tracks v first n id offset (run does_v (track_pages (first * page_size) (n * page_size) id offset) v)
 unfolding run track_pages fitting track_whole
-pages-tracked v first n id offset h m k =
+pages_tracked v first n id offset h m k =
     let z : offset + (first - first) * page_size ≡ offset = omega arith in
     rw (track-is first n id offset (omega arith) (omega arith))
     (rw z at (tracks-each n v first id offset first (omega arith) h (omega arith)))
@@ -203,12 +203,12 @@ module _ (v : View) (first f : ℕ) (bytes : List ℕ) (whole : length bytes % p
         masked = remasked-masked v r;
       }
 
-pub run-stored : (v : View) (first f : ℕ) (bytes : List ℕ) → Masked v → v.memory.size % page_size ≡ 0 → v.memory.size ≤ maximum
+pub run_stored : (v : View) (first f : ℕ) (bytes : List ℕ) → Masked v → v.memory.size % page_size ≡ 0 → v.memory.size ≤ maximum
     → length bytes % page_size ≡ 0 → first * page_size + length bytes ≤ v.memory.size
     → ((q : ℕ) → first ≤ q → q < first + length bytes / page_size → bit_and (v.memory.flag q) wxorx_bit ≡ 0)
     → RunStored v first f bytes (run does_v (on_memory (store_run (first * page_size) f bytes)) v)
 unfolding store_run
-run-stored v first f bytes m whole small pages fits free =
+run_stored v first f bytes m whole small pages fits free =
     let s =
     wx_stored v.memory (first * page_size) bytes whole small fits
     (λ q t. free q (omega (arith, t.above)) (omega (arith, t.below))) in

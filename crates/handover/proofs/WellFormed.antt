@@ -77,8 +77,8 @@ drop_cases P m p w k =
     cases (λ (r : ℕ × Tracked). P r.1) (ltb p (length m.0.flags)) _ _ (λ e. k _ tracking.Untracked) (λ e. w)
 
 -- every record dropped
-dropped-lengths : (m : Tracked) → SameLengths m (m.0, filled (length m.1) 0)
-dropped-lengths m = record { memory = memory-laws.lengths-same m.0; records = length-filled (length m.1) 0 }
+dropped_lengths : (m : Tracked) → SameLengths m (m.0, filled (length m.1) 0)
+dropped_lengths m = record { memory = memory-laws.lengths-same m.0; records = length-filled (length m.1) 0 }
 
 pub op_lengths : (o : AnyOp) (m : Tracked) → SameLengths m (does o m).1
 op_lengths (low o) m = record { memory = memory-laws.op_lengths o m.0; records = refl }
@@ -86,7 +86,7 @@ op_lengths (own lengths?) m = lengths-same m
 op_lengths (own (entry? p)) m = lengths-same m
 op_lengths (own (track! p id offset)) m = track_cases (SameLengths m) m p id offset (lengths-same m) (marked-lengths m p)
 op_lengths (own (drop! p)) m = drop_cases (SameLengths m) m p (lengths-same m) (marked-lengths m p)
-op_lengths (own drop_all!) m = dropped-lengths m
+op_lengths (own drop_all!) m = dropped_lengths m
 
 pub program-lengths : {A : Type 0} (g : Call A) (m : Tracked) → SameLengths m (run does g m).1
 program-lengths g m = kept does (SameLengths m) (λ o t e. lengths_then m t _ e (op_lengths o t)) g m (lengths-same m)
@@ -104,15 +104,15 @@ machine-lengths g m =
     kept machine_does (λ n. SameLengths m.0 n.0) (λ o n e. lengths_then _ _ _ e (machine_op_lengths o n)) g m
     (lengths-same m.0)
 
-pub given-lengths : (g : Given) → Later g → (m : LentMachine) → SameLengths m.0 (answer g m).1.0
-given-lengths (named c) l m = machine-lengths (program c) m
-given-lengths (clear_flag_call p f) l m = clear_lengths p f m.0
-given-lengths (fresh_call size version maximum) l m = absurd l
+pub given_lengths : (g : Given) → Later g → (m : LentMachine) → SameLengths m.0 (answer g m).1.0
+given_lengths (named c) l m = machine-lengths (program c) m
+given_lengths (clear_flag_call p f) l m = clear_lengths p f m.0
+given_lengths (fresh_call size version maximum) l m = absurd l
 
 pub calls-lengths : (gs : List Given) → Each Later gs → (m : LentMachine) → SameLengths m.0 (leaves gs m).0
 unfolding leaves Each
 calls-lengths [] l m = lengths-same m.0
-calls-lengths (g ∷ gs) l m = lengths_then _ _ _ (given-lengths g l.0 m) (calls-lengths gs l.1 (answer g m).1)
+calls-lengths (g ∷ gs) l m = lengths_then _ _ _ (given_lengths g l.0 m) (calls-lengths gs l.1 (answer g m).1)
 
 -- ---- every operation
 
@@ -130,9 +130,9 @@ pub whole-formed : (m : Tracked) → Whole m → WellFormed m
 whole-formed m w = record { memory = w.memory.formed; records_are = w.records_are }
 
 -- the lengths are right
-pub lengths-reply : (m : Tracked) → WellFormed m → fits_tracked m ≡ true
+pub lengths_reply : (m : Tracked) → WellFormed m → fits_tracked m ≡ true
 unfolding fits_all records_fit
-lengths-reply m w =
+lengths_reply m w =
     rw (fits-yes _ _ _ _ w.memory.fit, eq-eqb (length m.1) (record_words * length m.0.flags) w.records_are)
 
 pub marked-formed : (m : Tracked) → WellFormed m → (p f : ℕ) (t : Tracking) → WellFormed (marked m p f t)
@@ -147,7 +147,7 @@ op_kept (own lengths?) m w = w
 op_kept (own (entry? p)) m w = w
 op_kept (own (track! p id offset)) m w = track_cases WellFormed m p id offset w (marked-formed m w p)
 op_kept (own (drop! p)) m w = drop_cases WellFormed m p w (marked-formed m w p)
-op_kept (own drop_all!) m w = formed-same m _ (dropped-lengths m) w.memory w
+op_kept (own drop_all!) m w = formed-same m _ (dropped_lengths m) w.memory w
 
 pub op_whole : (o : AnyOp) (m : Tracked) → Whole m → Whole (does o m).1
 op_whole (low o) m w = whole_same m _ (op_lengths (low o) m) (memory-laws.op_whole o m.0 w.memory) w
@@ -155,7 +155,7 @@ op_whole (own lengths?) m w = w
 op_whole (own (entry? p)) m w = w
 op_whole (own (track! p id offset)) m w = track_cases Whole m p id offset w (marked-whole m w p)
 op_whole (own (drop! p)) m w = drop_cases Whole m p w (marked-whole m w p)
-op_whole (own drop_all!) m w = whole_same m _ (dropped-lengths m) w.memory w
+op_whole (own drop_all!) m w = whole_same m _ (dropped_lengths m) w.memory w
 
 pub machine_op_kept : (o : MachineOp) (m : LentMachine) → FormedMachine m → FormedMachine (machine_does o m).1
 machine_op_kept (low o) m w = op_kept o m.0 w
@@ -182,8 +182,8 @@ machine-whole g m w = kept machine_does WholeMachine machine_op_whole g m w
 pub call_kept : (c : Named) (m : LentMachine) → FormedMachine m → FormedMachine (run machine_does (program c) m).1
 call_kept c m w = machine-kept (program c) m w
 
-pub call-whole : (c : Named) (m : LentMachine) → WholeMachine m → WholeMachine (run machine_does (program c) m).1
-call-whole c m w = machine-whole (program c) m w
+pub call_whole : (c : Named) (m : LentMachine) → WholeMachine m → WholeMachine (run machine_does (program c) m).1
+call_whole c m w = machine-whole (program c) m w
 
 pub clear_kept : (p f : ℕ) (m : Tracked) → WellFormed m → WellFormed (clear_flag p f m).1
 clear_kept p f m w = formed-same m _ (clear_lengths p f m) (memory-laws.clear_kept p f m.0 w.memory) w
@@ -192,25 +192,25 @@ pub clear_whole : (p f : ℕ) (m : Tracked) → Whole m → Whole (clear_flag p 
 clear_whole p f m w = whole_same m _ (clear_lengths p f m) (memory-laws.clear_whole p f m.0 w.memory) w
 
 -- calls in turn, of which none is fresh
-pub given-kept : (g : Given) → Later g → (m : LentMachine) → FormedMachine m → FormedMachine (answer g m).1
-given-kept (named c) l m w = call_kept c m w
-given-kept (clear_flag_call p f) l m w = clear_kept p f m.0 w
-given-kept (fresh_call size version maximum) l m w = absurd l
+pub given_kept : (g : Given) → Later g → (m : LentMachine) → FormedMachine m → FormedMachine (answer g m).1
+given_kept (named c) l m w = call_kept c m w
+given_kept (clear_flag_call p f) l m w = clear_kept p f m.0 w
+given_kept (fresh_call size version maximum) l m w = absurd l
 
-pub given-whole : (g : Given) → Later g → (m : LentMachine) → WholeMachine m → WholeMachine (answer g m).1
-given-whole (named c) l m w = call-whole c m w
-given-whole (clear_flag_call p f) l m w = clear_whole p f m.0 w
-given-whole (fresh_call size version maximum) l m w = absurd l
+pub given_whole : (g : Given) → Later g → (m : LentMachine) → WholeMachine m → WholeMachine (answer g m).1
+given_whole (named c) l m w = call_whole c m w
+given_whole (clear_flag_call p f) l m w = clear_whole p f m.0 w
+given_whole (fresh_call size version maximum) l m w = absurd l
 
 pub calls-kept : (gs : List Given) → Each Later gs → (m : LentMachine) → FormedMachine m → FormedMachine (leaves gs m)
 unfolding leaves Each
 calls-kept [] l m w = w
-calls-kept (g ∷ gs) l m w = calls-kept gs l.1 _ (given-kept g l.0 m w)
+calls-kept (g ∷ gs) l m w = calls-kept gs l.1 _ (given_kept g l.0 m w)
 
 pub calls-whole : (gs : List Given) → Each Later gs → (m : LentMachine) → WholeMachine m → WholeMachine (leaves gs m)
 unfolding leaves Each
 calls-whole [] l m w = w
-calls-whole (g ∷ gs) l m w = calls-whole gs l.1 _ (given-whole g l.0 m w)
+calls-whole (g ∷ gs) l m w = calls-whole gs l.1 _ (given_whole g l.0 m w)
 
 -- ---- a fresh machine
 

@@ -5,3 +5,5 @@
 // specs/Theorem.antt, one page, what holds when a sound machine is stopped and goes on on another host: demand 3 of the mission.
 // proofs/ has what it rests on: storage stays well formed, machines that look alike answer alike, a snapshot's runs restored on a
 // blank memory give back what was seen. There is no code here.
+
+#![tactic(auto)]

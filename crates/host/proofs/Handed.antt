@@ -16,7 +16,7 @@ use Rattle.machine.specs.declared.Answer as machine-answer
 use Rattle.machine.specs.Numbers.{numbers_of}
 use Rattle.machine.specs.Fresh.{Tracked, LentMachine}
 use Rattle.machine.specs.Fresh as machine
-use Rattle.tracking.specs.declared.context.Stored as context-stored
+use Rattle.tracking.specs.declared.context.Stored as context_stored
 use Rattle.tracking.specs.declared.records.Recorded as page-recorded
 use Rattle.tracking.specs.declared.records.Tracking.{Tracking}
 use Rattle.tracking.specs.declared.records.Tracking.TheVariants as tracking
@@ -25,7 +25,7 @@ use Rattle.tracking.specs.declared.sources.Place.TheVariants as place
 use Rattle.tracking.specs.Sources.{Data, placed}
 use Rattle.tracking.specs.Tracking as calls
 use Rattle.tracking.specs.Answers.{context_of, recorded_of}
-use Rattle.snapshot.specs.declared.make.Made as snapshot-made
+use Rattle.snapshot.specs.declared.make.Made as snapshot_made
 use Rattle.snapshot.specs.MakeSnapshot as snapshot
 use Rattle.snapshot.specs.Answers.{made_of}
 use Rattle.host.specs.declared.Stored.{Stored}
@@ -50,45 +50,45 @@ pub fresh_on : (r : Fresh) (a : Answer) (slots flags area : List ℕ) (x : ℕ �
     → handed_fresh r slots flags area ≡ x
 fresh_on r a slots flags area x e (n, m) = (λ i. (n i, state_of slots flags area (m i))) ∙ e
 
-pub number-on : (r : ℕ) (o : Outcome) (s : State) (x : ℕ × State) → (number_of o, s) ≡ x → r ≡ number_of o → (r, s) ≡ x
-number-on r o s x e n = ap {B = ℕ × State} (λ k. (k, s)) n ∙ e
+pub number_on : (r : ℕ) (o : Outcome) (s : State) (x : ℕ × State) → (number_of o, s) ≡ x → r ≡ number_of o → (r, s) ≡ x
+number_on r o s x e n = ap {B = ℕ × State} (λ k. (k, s)) n ∙ e
 
 pub value_on : (r : Value) (a : memory-value.Value) (s : State) (x : Valued × State)
     → (value_of a, s) ≡ x → (r.number ≡ number_of a.outcome) × (r.value ≡ a.value)
     → (handed_value r, s) ≡ x
 value_on r a s x e (n, v) = (λ i. (record { number = n i; value = v i }, s)) ∙ e
 
-pub indices-on : (r : Indices) (a : memory-indices.Indices) (x : PageIndices)
+pub indices_on : (r : Indices) (a : memory-indices.Indices) (x : PageIndices)
     → indices_of a ≡ x → (r.number ≡ number_of a.outcome) × (r.first ≡ a.first) × (r.last ≡ a.last)
     → handed_indices r ≡ x
-indices-on r a x e (n, f, l) = (λ i. record { number = n i; first = f i; last = l i }) ∙ e
+indices_on r a x e (n, f, l) = (λ i. record { number = n i; first = f i; last = l i }) ∙ e
 
 pub bytes_on : (r : ℕ) (o : Outcome) (out : List ℕ) (s : State) (x : Output × State)
     → wrote (number_of o) 0 out s ≡ x → r ≡ number_of o → wrote r 0 out s ≡ x
 bytes_on r o out s x e n = ap {B = Output × State} (λ k. wrote k 0 out s) n ∙ e
 
-pub text-on : (r : Value) (a : memory-value.Value) (out : List ℕ) (s : State) (x : Output × State)
+pub text_on : (r : Value) (a : memory-value.Value) (out : List ℕ) (s : State) (x : Output × State)
     → wrote (number_of a.outcome) a.value out s ≡ x → (r.number ≡ number_of a.outcome) × (r.value ≡ a.value)
     → wrote r.number r.value out s ≡ x
-text-on r a out s x e (n, v) = (λ i. wrote (n i) (v i) out s) ∙ e
+text_on r a out s x e (n, v) = (λ i. wrote (n i) (v i) out s) ∙ e
 
 -- ---- a machine
 
-pub machine-on : (r : MachineAnswer) (a : machine-answer.Answer) (slots flags area records : List ℕ) (x : ℕ × LentMachine)
+pub machine_on : (r : MachineAnswer) (a : machine-answer.Answer) (slots flags area records : List ℕ) (x : ℕ × LentMachine)
     → machine.answered a slots flags area records ≡ x → (r.number ≡ number_of a.outcome) × (r.machine ≡ a.machine)
     → handed_machine r slots flags area records ≡ x
-machine-on r a slots flags area records x e (n, m) =
+machine_on r a slots flags area records x e (n, m) =
     (λ i. (n i, ((state_of slots flags area (m i).memory, records), numbers_of (m i)))) ∙ e
 
-pub register-on : (r : Value) (a : memory-value.Value) (x : Valued)
+pub register_on : (r : Value) (a : memory-value.Value) (x : Valued)
     → value_of a ≡ x → (r.number ≡ number_of a.outcome) × (r.value ≡ a.value)
     → handed_value r ≡ x
-register-on r a x e (n, v) = (λ i. record { number = n i; value = v i }) ∙ e
+register_on r a x e (n, v) = (λ i. record { number = n i; value = v i }) ∙ e
 
-pub changed-on : (r : MachineAnswer) (a : machine-answer.Answer) (x : ℕ × Machine)
+pub changed_on : (r : MachineAnswer) (a : machine-answer.Answer) (x : ℕ × Machine)
     → (number_of a.outcome, a.machine) ≡ x → (r.number ≡ number_of a.outcome) × (r.machine ≡ a.machine)
     → (r.number, r.machine) ≡ x
-changed-on r a x e (n, m) = (λ i. (n i, m i)) ∙ e
+changed_on r a x e (n, m) = (λ i. (n i, m i)) ∙ e
 
 -- ---- sources and tracking
 
@@ -101,17 +101,17 @@ module _ (n : ℕ) (p : Place) where
   place_found start count full e k =
       (λ i. record { number = k i; start = start; count = count; full = full }) ∙ ap placed (sym e)
 
-pub found-on : (r : Found) (p : Place) (x : Data) → placed p ≡ x → handed_found r ≡ placed p → handed_found r ≡ x
-found-on r p x e f = f ∙ e
+pub found_on : (r : Found) (p : Place) (x : Data) → placed p ≡ x → handed_found r ≡ placed p → handed_found r ≡ x
+found_on r p x e f = f ∙ e
 
-pub tracked-on : (r : ℕ) (o : Outcome) (m : Tracked) (x : ℕ × Tracked) → (number_of o, m) ≡ x → r ≡ number_of o → (r, m) ≡ x
-tracked-on r o m x e n = ap {B = ℕ × Tracked} (λ k. (k, m)) n ∙ e
+pub tracked_on : (r : ℕ) (o : Outcome) (m : Tracked) (x : ℕ × Tracked) → (number_of o, m) ≡ x → r ≡ number_of o → (r, m) ≡ x
+tracked_on r o m x e n = ap {B = ℕ × Tracked} (λ k. (k, m)) n ∙ e
 
-pub context-on : (r : ContextStored) (a : context-stored.Stored) (slots flags area records : List ℕ) (x : calls.Stored × Tracked)
+pub context_on : (r : ContextStored) (a : context_stored.Stored) (slots flags area records : List ℕ) (x : calls.Stored × Tracked)
     → context_of a slots flags area records ≡ x
     → (r.number ≡ number_of a.outcome) × (r.used ≡ a.memory.used) × (r.stored ≡ a.stored) × (r.full ≡ a.full)
     → handed_context r slots flags area records ≡ left_context x
-context-on r a slots flags area records x e (n, u, s, f) =
+context_on r a slots flags area records x e (n, u, s, f) =
     (λ i. record { number = n i; stored = s i; full = f i; slots = slots; flags = flags; area = area; records = records; used = u i })
     ∙ ap left_context e
 
@@ -131,9 +131,9 @@ recorded_on r a m x e f = ap {B = ShownRecord × Tracked} (λ k. (k, m)) f ∙ a
 
 -- ---- a snapshot
 
-pub made-on : (r : Made) (a : snapshot-made.Made) (file pages : List ℕ) (m : LentMachine) (x : snapshot.Made × LentMachine)
+pub made_on : (r : Made) (a : snapshot_made.Made) (file pages : List ℕ) (m : LentMachine) (x : snapshot.Made × LentMachine)
     → made_of a file pages m ≡ x
     → (r.number ≡ number_of a.outcome) × (r.records ≡ a.records) × (r.pages ≡ a.pages)
     → handed_made r file pages m ≡ x
-made-on r a file pages m x e (n, s, p) =
+made_on r a file pages m x e (n, s, p) =
     (λ i. (record { number = n i; records = s i; pages = p i; file = file; body = pages }, m)) ∙ e

@@ -4,6 +4,8 @@
 // table). A slice is a pointer and a length. A memory goes in as two numbers: its size (`extent`), and last of all its slots in
 // use. A store hands back the slots then in use, and nothing else of a memory changes. The reservation stays with the host.
 // A machine goes in by value and comes back whole. A call that looks at records is lent them beside the memory's storage.
+#![tactic(auto)]
+
 ghost use Rattle.std.specs.Prelude.{◌≡◌, ◌/◌, length};
 ghost use Rattle.bits.specs.Rounding.{page_size, rounded_up, rounded_down};
 ghost use Rattle.outcome.specs.Numbers.{number_of};
@@ -33,32 +35,32 @@ use tracking::records::Tracking;
 use tracking::sources::Place;
 
 // A number of document 01's table, and the slots in use.
+#[derive(Clone, Copy)]
 #[repr(C)]
-#[derive(Drop)]
 pub struct Stored {
     pub number: u32,
     pub used: u64,
 }
 
 // A number of document 01's table, and a memory.
+#[derive(Clone, Copy)]
 #[repr(C)]
-#[derive(Drop)]
 pub struct Fresh {
     pub number: u32,
     pub memory: Memory,
 }
 
 // A number of document 01's table, and a value.
+#[derive(Clone, Copy)]
 #[repr(C)]
-#[derive(Drop)]
 pub struct Value {
     pub number: u32,
     pub value: u64,
 }
 
 // A number of document 01's table, and the first and the last page.
+#[derive(Clone, Copy)]
 #[repr(C)]
-#[derive(Drop)]
 pub struct Indices {
     pub number: u32,
     pub first: u64,
@@ -66,16 +68,16 @@ pub struct Indices {
 }
 
 // A number of document 01's table, and a machine.
+#[derive(Clone, Copy)]
 #[repr(C)]
-#[derive(Drop)]
 pub struct MachineAnswer {
     pub number: u32,
     pub machine: Machine,
 }
 
 // A number of document 01's table; where data starts in the source bytes, how many bytes it has, and the full length that remains.
+#[derive(Clone, Copy)]
 #[repr(C)]
-#[derive(Drop)]
 pub struct Found {
     pub number: u32,
     pub start: u64,
@@ -84,8 +86,8 @@ pub struct Found {
 }
 
 // A number of document 01's table, the slots in use, the bytes stored, and the full length that remained.
+#[derive(Clone, Copy)]
 #[repr(C)]
-#[derive(Drop)]
 pub struct ContextStored {
     pub number: u32,
     pub used: u64,
@@ -94,8 +96,8 @@ pub struct ContextStored {
 }
 
 // A number of document 01's table; 1 for a page that is tracked, and then id, offset and flag; 0 for each otherwise.
+#[derive(Clone, Copy)]
 #[repr(C)]
-#[derive(Drop)]
 pub struct Recorded {
     pub number: u32,
     pub tracked: u32,
@@ -105,8 +107,8 @@ pub struct Recorded {
 }
 
 // A number of document 01's table, and the records and pages that a snapshot wrote.
+#[derive(Clone, Copy)]
 #[repr(C)]
-#[derive(Drop)]
 pub struct Made {
     pub number: u32,
     pub records: u64,

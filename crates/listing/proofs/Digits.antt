@@ -45,9 +45,9 @@ digits_few (suc k) n = elim (dec_lt n 10) [
 -- ---- decimals
 
 -- a number below ten is one digit
-pub decimal-one : (n : ℕ) → n < 10 → decimal n ≡ digit n ∷ []
+pub decimal_one : (n : ℕ) → n < 10 → decimal n ≡ digit n ∷ []
 unfolding decimal
-decimal-one n h = digits_one 19 n h
+decimal_one n h = digits_one 19 n h
 
 -- any other is the digits of its tenth, and one more
 pub decimal_more : (n : ℕ) → 10 ≤ n → n < 2 ^ 64 → decimal n ≡ decimal (n / 10) ++ (digit (n % 10) ∷ [])
@@ -81,7 +81,7 @@ places_more n count rest h k e =
 -- the end: the last one
 pub places_done : (n count rest : ℕ) → rest < 10 → count + length (decimal rest) ≡ 1 + length (decimal n) → count ≡ length (decimal n)
 places_done n count rest h e =
-    let m : length (decimal rest) ≡ 1 = rw (decimal-one rest h) in
+    let m : length (decimal rest) ≡ 1 = rw (decimal_one rest h) in
     omega arith
 
 -- ---- writing
@@ -122,4 +122,4 @@ spelled_more s t at i rest b h k e d w =
 
 -- the end: the first digit
 pub spelled_done : (s t : List ℕ) (at rest b : ℕ) → rest < 10 → b ≡ 48 + rest → written s at (decimal rest) ≡ t → set s at b ≡ t
-spelled_done s t at rest b h d w = rw (d, written_byte s at (digit rest), ← decimal-one rest h) w
+spelled_done s t at rest b h d w = rw (d, written_byte s at (digit rest), ← decimal_one rest h) w

@@ -15,7 +15,6 @@ use Rattle.words.proofs.Written.{length-written, written_none}
 use Rattle.recordfile.specs.Words.{record_bytes}
 use Rattle.recordfile.specs.Records.{count_in, records_in}
 use Rattle.recordfile.specs.Form.{Form, malformed, needs, least_records, most_records, records_need, judged, capped}
-use Rattle.recordfile.specs.declared.Record.{Record}
 use Rattle.recordfile.specs.declared.form.Form as code-form
 use Rattle.recordfile.specs.declared.form.Form.TheVariants as code
 use Rattle.recordfile.specs.contracts.form.Form.{the_type}

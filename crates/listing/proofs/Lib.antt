@@ -5,6 +5,7 @@ pub mod Spaced
 pub mod Text
 pub mod Judged
 pub mod Printed
+pub mod Front
 pub mod Once
 pub mod Examples
 pub mod Fixed

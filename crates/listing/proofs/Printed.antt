@@ -20,17 +20,17 @@ printed out t bytes number size z inside =
     let k : length t ≡ length out = ap length w ∙ length-written out bytes 0 in
     rw (n, w) (part-written out bytes 0 (omega arith))
 
-pub listing-printed : (file out t : List ℕ) (number size : ℕ) → most_text ≤ length out
+pub listing_printed : (file out t : List ℕ) (number size : ℕ) → most_text ≤ length out
     → output number size t ≡ laid out (list_into file (length out))
     → size ≤ length t
     → take size t ≡ listing file
-listing-printed file out t number size room e inside = printed out t (listing file) number size (rw (into file out room) at e) inside
+listing_printed file out t number size room e inside = printed out t (listing file) number size (rw (into file out room) at e) inside
 
-pub map-printed : (file out t : List ℕ) (pages number size : ℕ) → pages ≤ most_pages → most_map ≤ length out
+pub map_printed : (file out t : List ℕ) (pages number size : ℕ) → pages ≤ most_pages → most_map ≤ length out
     → output number size t ≡ laid out (map_into pages file (length out))
     → size ≤ length t
     → take size t ≡ map pages file
-map-printed file out t pages number size few room e inside =
+map_printed file out t pages number size few room e inside =
     printed out t (map pages file) number size (rw (map-into pages file out few room) at e) inside
 
 -- so many bytes are there

@@ -34,13 +34,13 @@ digits_back (suc k) n h = elim (dec_lt n 10) [
 ]
 
 -- A NUMBER BELOW 2^64 COMES BACK FROM ITS TEXT
-pub decimal-back : (n : ℕ) → n < 2 ^ 64 → read_on 0 (decimal n) ≡ n
+pub decimal_back : (n : ℕ) → n < 2 ^ 64 → read_on 0 (decimal n) ≡ n
 unfolding decimal
-decimal-back n h = digits_back 20 n (omega arith)
+decimal_back n h = digits_back 20 n (omega arith)
 
 -- so two that have the same text are the same
 pub decimal_once : (m n : ℕ) → m < 2 ^ 64 → n < 2 ^ 64 → decimal m ≡ decimal n → m ≡ n
-decimal_once m n h k e = sym (decimal-back m h) ∙ ap (read_on 0) e ∙ decimal-back n k
+decimal_once m n h k e = sym (decimal_back m h) ∙ ap (read_on 0) e ∙ decimal_back n k
 
 -- no 0 stands before the others
 digits_first : (k n : ℕ) → 1 ≤ n → n < 10 ^ k → 49 ≤ get_or (digits_of k n) 0 0

@@ -17,8 +17,8 @@ use Rattle.listing.proofs.Digits.{decimal-few, written_byte}
 
 -- ---- a number after a space
 
-pub spaced-one : (s t : List ℕ) (at n : ℕ) → t ≡ written (set s at space) (at + 1) (decimal n) → t ≡ written s at (space ∷ decimal n)
-spaced-one s t at n e = e ∙ rw add-one (sym (written_cons s (decimal n) at space))
+pub spaced_one : (s t : List ℕ) (at n : ℕ) → t ≡ written (set s at space) (at + 1) (decimal n) → t ≡ written s at (space ∷ decimal n)
+spaced_one s t at n e = e ∙ rw add-one (sym (written_cons s (decimal n) at space))
 
 pub spaced-length : (s t l : List ℕ) (at i a : ℕ) → t ≡ written (set s i a) at l → length t ≡ length s
 spaced-length s t l at i a e = ap length e ∙ simp (length-written, length-set)

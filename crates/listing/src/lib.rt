@@ -12,6 +12,8 @@
 //
 // What the text is, is `listing` (specs/Listing.antt), what the map is, `map` (specs/Map.antt); Session A's text is
 // proofs/Examples.antt.
+#![tactic(auto)]
+
 mod decimals;
 mod forms;
 mod lines;
@@ -39,7 +41,7 @@ pub const MOST_TEXT: usize = MOST_RECORDS * MOST_LINE;
 pub const MOST_PAGES: u64 = 1024;
 
 // What a listing answers: its outcome, and the size of the text.
-#[derive(Drop)]
+#[derive(Clone, Copy)]
 pub struct Listed {
     pub outcome: Outcome,
     pub size: usize,

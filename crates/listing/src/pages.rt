@@ -2,7 +2,7 @@
 ghost use Rattle.std.specs.Prelude.{◌≡◌, ◌*◌, ◌-◌, ◌^◌, ◌≤◌, ◌<◌, min};
 ghost use Rattle.bits.specs.Rounding.{page_size};
 ghost use Rattle.recordfile.specs.Records.{records_in};
-ghost use Rattle.listing.specs.Pages.{most_pages, covers as coversPage, said_by, said_of, is_dirty, is_source, is_left_out, pages_that, partly as partlyDrawn, partly_by, runs_partly};
+ghost use Rattle.listing.specs.Pages.{most_pages, covers as covers_page, said_by, said_of, is_dirty, is_source, is_left_out, pages_that, partly as partly_drawn, partly_by, runs_partly};
 
 use bits::RISCV_PAGESIZE;
 use recordfile::{RECORD_BYTES, Record};
@@ -11,7 +11,7 @@ use recordfile::{RECORD_BYTES, Record};
 pub const PAGE_BYTES: u64 = RISCV_PAGESIZE as u64;
 
 // What a file says of a page: nothing; a source's, by a run with these numbers; or dirty.
-#[derive(Drop)]
+#[derive(Clone, Copy)]
 pub enum Said {
     LeftOut,
     Source {
@@ -26,7 +26,7 @@ pub enum Said {
 }
 
 // How many pages are dirty, from a source, left out.
-#[derive(Drop)]
+#[derive(Clone, Copy)]
 pub struct Counts {
     pub dirty: u64,
     pub source: u64,
@@ -36,7 +36,7 @@ pub struct Counts {
 // Whether a run of so many bytes covers a page.
 fn covers(address: u64, size: u64, page: u64) -> bool
     requires { page < most_pages }
-    ensures { result ≡ coversPage address size page }
+    ensures { result ≡ covers_page address size page }
 {
     let start = page * PAGE_BYTES;
     if start < address {
@@ -198,7 +198,7 @@ pub fn count_pages(file: &[u8], pages: u64) -> Counts
 // 1 for a run of so many bytes that is not drawn whole on so many pages, else 0.
 fn partly(pages: u64, address: u64, size: u64) -> u64
     requires { pages ≤ most_pages }
-    ensures value { result ≡ partlyDrawn pages address size }
+    ensures value { result ≡ partly_drawn pages address size }
     ensures upper_bound { result ≤ 1 }
 {
     let end = pages * PAGE_BYTES;

@@ -5,6 +5,8 @@
 // `with_memory` takes back what such a call answered. A fresh machine also has every page's record untracked.
 //
 // What each method answers and leaves is a definition of specs/Numbers.antt; what `fresh` does is one of specs/Fresh.antt.
+#![tactic(auto)]
+
 ghost use Rattle.std.specs.Prelude.{◌≡◌, ◌/◌, length};
 ghost use Rattle.outcome.specs.Numbers.{number_of};
 ghost use Rattle.words.specs.Bytes.{filled};
@@ -23,7 +25,7 @@ pub const RECORD_WORDS: u64 = 3;
 
 // A machine's own numbers, and its memory's.
 #[repr(C)]
-#[derive(Drop)]
+#[derive(Clone, Copy)]
 pub struct Machine {
     pub registers: [u64; RISCV_GENERAL_REGISTER_NUMBER],
     pub pc: u64,
@@ -35,7 +37,7 @@ pub struct Machine {
 }
 
 // What a call answers, and the machine handed back.
-#[derive(Drop)]
+#[derive(Clone, Copy)]
 pub struct Answer {
     pub outcome: Outcome,
     pub machine: Machine,

@@ -1,9 +1,7 @@
 -- The lengths of lent storage, as a test and as facts; a call where they are right, and where they are not.
-use Rattle.std.proofs.Common.{◌≡◌, ℕ, ◌+◌, ◌/◌, ◌%◌, ◌≤◌, Bool, true, false, cond, eqb, sym, refl, ap, ◌∙◌, arith, eq-eqb, eqb-true, le-leb, leb-true}
-use Rattle.bits.specs.Rounding.{page_size}
+use Rattle.std.proofs.Common.{◌≡◌, ℕ, Bool, true, false, cond, sym, refl, ap, ◌∙◌, arith, eq-eqb, eqb-true, le-leb, leb-true}
 use Rattle.program.specs.Program.{ret, run}
 use Rattle.memory.specs.declared.Memory.{Memory}
-use Rattle.memory.specs.Pages.{maximum}
 use Rattle.memory.specs.Storage.{State, Fitting, fits_lengths, fits}
 use Rattle.memory.specs.Operations.{Call, does, fitting}
 use Rattle.memory.specs.Inner.{Kept}

@@ -156,9 +156,9 @@ module _ (s : State) (a n : ℕ) where
             loaded v (meeting-done g s refl refl (omega arith)) (r.value ∙ rw (x, w) (ap from_le p))
 
 -- the page after the first is there: the bytes lie below the maximum
-pub load-end : (slots : List ℕ) (flags area : ℕ) (m : Memory) (a n k : ℕ) (d : Bool) → Fitting (length slots) flags area m → n ≤ 8
+pub load_end : (slots : List ℕ) (flags area : ℕ) (m : Memory) (a n k : ℕ) (d : Bool) → Fitting (length slots) flags area m → n ≤ 8
     → k ≡ met slots m.used (a / page_size + 1) → d ≡ eqb k 0 → d ≡ true → a + n ≤ maximum
-load-end slots flags area m a n k d f h e i c =
+load_end slots flags area m a n k d f h e i c =
     omega (arith, met-there slots m.used (a / page_size + 1) k d e i c, f.small, f.slots_are)
 
 -- ---- bytes within reach

@@ -1,5 +1,5 @@
 -- A slot that is made ready for a store: zeroed, or all its bytes are to be stored to.
-use Rattle.std.proofs.Common.{◌≡◌, ℕ, ◌+◌, ◌*◌, ◌/◌, ◌<◌, ◌≤◌, Bool, true, false, eqb, List, length, get_or, set, sym, refl, ap, ◌∙◌, add-zero, arith}
+use Rattle.std.proofs.Common.{◌≡◌, ℕ, ◌+◌, ◌*◌, ◌/◌, ◌<◌, ◌≤◌, Bool, true, false, eqb, List, length, get_or, set, sym, refl, ap, ◌∙◌, arith}
 use lib.Bits.{bit_or}
 use borrow.Author.Tests.{eqb-false}
 use Rattle.bits.specs.Rounding.{page_size}

@@ -17,7 +17,7 @@ use Rattle.memory.specs.View.{WellFormed, Roomy, Whole}
 use Rattle.memory.specs.Calls.{on_sparse, on_wxorx, Named, init_pages_call, fill_page_data_call, fetch_flag_call, set_flag_call, check_permission_call, set_dirty_call, memory_size_call, memory_pages_call, store_byte_call, store_bytes_call, store_wide_call, load_bytes_call, load_wide_call, execute_load_call, load_c_string_call, get_lr_call, set_lr_call, program, number_in}
 use Rattle.memory.proofs.StoreCases.{cases}
 use Rattle.memory.proofs.WellFormed.{op_kept, op_roomy}
-use Rattle.memory.proofs.Replies.{lengths-reply, meet-reply, part-reply}
+use Rattle.memory.proofs.Replies.{lengths_reply, meet-reply, part-reply}
 
 -- k is none of the numbers that programs answer of themselves
 pub record Foreign (k : ℕ) : Type 0 where
@@ -87,17 +87,17 @@ module _ (k : ℕ) (own : Foreign k) where
 
   -- stores
 
-  never-store_over : (pages a : ℕ) (bytes : List ℕ) → Never (store_over pages a bytes)
+  never_store_over : (pages a : ℕ) (bytes : List ℕ) → Never (store_over pages a bytes)
   unfolding store_over
-  never-store_over zero a bytes = own.not_0
-  never-store_over (suc pages) a bytes =
+  never_store_over zero a bytes = own.not_0
+  never_store_over (suc pages) a bytes =
       cases Never (eqb (length bytes) 0) _ _
       (λ t. own.not_0)
-      (λ t. never_then (perform (part! a bytes)) _ (λ r c. c) (never-store_over pages _ _))
+      (λ t. never_then (perform (part! a bytes)) _ (λ r c. c) (never_store_over pages _ _))
 
   never-store : (a : ℕ) (bytes : List ℕ) → Never (store a bytes)
   unfolding store
-  never-store a bytes = never-store_over (length bytes) a bytes
+  never-store a bytes = never_store_over (length bytes) a bytes
 
   never_sparse : (a : ℕ) (bytes : List ℕ) → Never (sparse.store_bytes a bytes)
   unfolding sparse.store_bytes
@@ -108,20 +108,20 @@ module _ (k : ℕ) (own : Foreign k) where
   never-fill a size lead source =
       never_then _ _ (never-store _ _) (never_then _ _ (never-store _ _) (never-store _ _))
 
-  never-fill_page_data : (a size lead : ℕ) (source : List ℕ) → Never (fill_page_data a size lead source)
+  never_fill_page_data : (a size lead : ℕ) (source : List ℕ) → Never (fill_page_data a size lead source)
   unfolding fill_page_data
-  never-fill_page_data a size lead source = never-fitting (λ n. n ≢ k) (λ n. n) _ (never-fill a size lead source)
+  never_fill_page_data a size lead source = never-fitting (λ n. n ≢ k) (λ n. n) _ (never-fill a size lead source)
 
-  never-page_indices : (a n : ℕ) → (page_indices a n).number ≢ k
+  never_page_indices : (a n : ℕ) → (page_indices a n).number ≢ k
   unfolding pages_within
-  never-page_indices a n =
+  never_page_indices a n =
       cases (λ (i : PageIndices). i.number ≢ k) (eqb n 0) _ _
       (λ t. own.not_2)
       (λ t. cases (λ (i : PageIndices). i.number ≢ k) (leb (a + n) maximum) _ _ (λ u. own.not_0) (λ u. own.not_2))
 
   never-permitted : (want a n : ℕ) → Never (permitted want a n)
   unfolding permitted
-  never-permitted want a n = never-onwards (λ n. n ≢ k) (λ n. n) _ _ (never-page_indices a n) (never-permits _ _ want)
+  never-permitted want a n = never-onwards (λ n. n ≢ k) (λ n. n) _ _ (never_page_indices a n) (never-permits _ _ want)
 
   never_wxorx : (a : ℕ) (bytes : List ℕ) → Never (wxorx.store_bytes a bytes)
   unfolding wxorx.store_bytes
@@ -131,15 +131,15 @@ module _ (k : ℕ) (own : Foreign k) where
       (λ t. own.not_0)
       (λ t. never_then _ _ (never-permitted writable a (length bytes)) (never-store a bytes)))
 
-  never-init_flag : (flags p : ℕ) → Never (init_flag flags p)
+  never_init_flag : (flags p : ℕ) → Never (init_flag flags p)
   unfolding init_flag
-  never-init_flag flags p = λ f c.
+  never_init_flag flags p = λ f c.
       never-onwards (λ n. n ≢ k) (λ n. n) _ f.number c
       (cases Never (eqb (bit_and f.value frozen) 0) _ _ (λ t r d. d) (λ t. own.not_5))
 
-  never-in_bounds : (m a size lead : ℕ) → in_bounds m a size lead ≢ k
+  never_in_bounds : (m a size lead : ℕ) → in_bounds m a size lead ≢ k
   unfolding in_bounds
-  never-in_bounds m a size lead =
+  never_in_bounds m a size lead =
       let P : ℕ → Type 0 = λ n. n ≢ k in
       cases P (eqb (rounded_down a) a) _ _
       (λ t.
@@ -155,13 +155,13 @@ module _ (k : ℕ) (own : Foreign k) where
       (λ t. own.not_3))
       (λ t. own.not_3)
 
-  never-init_pages : (a size flags lead : ℕ) (source : List ℕ) → Never (init_pages a size flags lead source)
+  never_init_pages : (a size flags lead : ℕ) (source : List ℕ) → Never (init_pages a size flags lead source)
   unfolding init_pages
-  never-init_pages a size flags lead source =
+  never_init_pages a size flags lead source =
       never-fitting (λ n. n ≢ k) (λ n. n) _
       (λ m c.
-      never-onwards (λ n. n ≢ k) (λ n. n) _ _ (never-in_bounds m a size lead)
-      (never_then _ _ (never-each _ (never-init_flag flags) _ _) (never-fill a size lead source)))
+      never-onwards (λ n. n ≢ k) (λ n. n) _ _ (never_in_bounds m a size lead)
+      (never_then _ _ (never-each _ (never_init_flag flags) _ _) (never-fill a size lead source)))
 
   -- loads
 
@@ -174,9 +174,9 @@ module _ (k : ℕ) (own : Foreign k) where
   never-load n a =
       ends-after (Can k) (λ n. n ≢ k) (λ v. v.number ≢ k) no_value _ _ (never-meets a n) (λ n c. c) (λ l c. own.not_0)
 
-  never-load_wide : (n a : ℕ) → NeverValued (load_wide n a)
+  never_load_wide : (n a : ℕ) → NeverValued (load_wide n a)
   unfolding load_wide
-  never-load_wide n a = never-fitting (λ v. v.number ≢ k) no_value _ (never-load n a)
+  never_load_wide n a = never-fitting (λ v. v.number ≢ k) no_value _ (never-load n a)
 
   never-reach : (a n room : ℕ) → Never (reach a n room)
   unfolding reach
@@ -186,35 +186,35 @@ module _ (k : ℕ) (own : Foreign k) where
       (λ t.
       never_then _ _ (never-meets a n) (cases (λ (x : ℕ). x ≢ k) (ltb room n) 8 0 (λ u. own.not_8) (λ u. own.not_0)))
 
-  never-load_bytes : (a n room : ℕ) → NeverOutput (load_bytes a n room)
+  never_load_bytes : (a n room : ℕ) → NeverOutput (load_bytes a n room)
   unfolding load_bytes
-  never-load_bytes a n room =
+  never_load_bytes a n room =
       never-fitting (λ o. o.number ≢ k) no_output _
       (cases NeverOutput (eqb n 0) _ _
       (λ t. own.not_0)
       (λ t.
       ends-after (Can k) (λ n. n ≢ k) (λ o. o.number ≢ k) no_output _ _ (never-reach a n room) (λ n c. c) (λ l c. own.not_0)))
 
-  never-next_byte : (a : ℕ) (seen : List ℕ) (more : ℕ → Call Output) → ((b : ℕ) → NeverOutput (more b))
+  never_next_byte : (a : ℕ) (seen : List ℕ) (more : ℕ → Call Output) → ((b : ℕ) → NeverOutput (more b))
       → NeverOutput (next_byte a seen more)
   unfolding next_byte
-  never-next_byte a seen more e = λ n c.
+  never_next_byte a seen more e = λ n c.
       never-onwards (λ o. o.number ≢ k) (λ k. output k 0 seen) _ n c
       (λ b d. cases NeverOutput (eqb b 0) _ _ (λ t. own.not_0) (λ t. e b))
 
-  never-c_string : (room a : ℕ) (seen : List ℕ) → NeverOutput (c_string room a seen)
+  never_c_string : (room a : ℕ) (seen : List ℕ) → NeverOutput (c_string room a seen)
   unfolding c_string
-  never-c_string zero a seen = never-next_byte a seen _ (λ b. own.not_8)
-  never-c_string (suc room) a seen = never-next_byte a seen _ (λ b. never-c_string room (a + 1) (seen ++ (b ∷ [])))
+  never_c_string zero a seen = never_next_byte a seen _ (λ b. own.not_8)
+  never_c_string (suc room) a seen = never_next_byte a seen _ (λ b. never_c_string room (a + 1) (seen ++ (b ∷ [])))
 
   -- every call
 
   pub never_ends : (c : Named) → Ends (Can k) (λ x. number_in c x ≢ k) (program c)
   unfolding fetch_flag set_flag check_permission set_dirty memory_size memory_pages lr set_lr sparse.store_byte sparse.store_wide
       wxorx.store_byte wxorx.store_wide execute_load load_c_string
-  never_ends (init_pages_call on_sparse a size flags lead source) = never-fill_page_data a size lead source
-  never_ends (init_pages_call on_wxorx a size flags lead source) = never-init_pages a size flags lead source
-  never_ends (fill_page_data_call a size lead source) = never-fill_page_data a size lead source
+  never_ends (init_pages_call on_sparse a size flags lead source) = never_fill_page_data a size lead source
+  never_ends (init_pages_call on_wxorx a size flags lead source) = never_init_pages a size flags lead source
+  never_ends (fill_page_data_call a size lead source) = never_fill_page_data a size lead source
   never_ends (fetch_flag_call p) = never-fitting (λ v. v.number ≢ k) no_value _ (λ v c. c)
   never_ends (set_flag_call p f) = never-fitting (λ n. n ≢ k) (λ n. n) _ (λ r c. c)
   never_ends (check_permission_call first last want) = never-fitting (λ n. n ≢ k) (λ n. n) _ (never-permits first last want)
@@ -227,13 +227,13 @@ module _ (k : ℕ) (own : Foreign k) where
   never_ends (store_bytes_call on_wxorx a bytes) = never_wxorx a bytes
   never_ends (store_wide_call on_sparse n a x) = never_sparse a (to_le n x)
   never_ends (store_wide_call on_wxorx n a x) = never_wxorx a (to_le n x)
-  never_ends (load_bytes_call a n out) = never-load_bytes a n (length out)
-  never_ends (load_wide_call n a) = never-load_wide n a
-  never_ends (execute_load_call on_sparse n a) = never-load_wide n a
+  never_ends (load_bytes_call a n out) = never_load_bytes a n (length out)
+  never_ends (load_wide_call n a) = never_load_wide n a
+  never_ends (execute_load_call on_sparse n a) = never_load_wide n a
   never_ends (execute_load_call on_wxorx n a) =
       never-fitting (λ v. v.number ≢ k) no_value _
       (ends-after (Can k) (λ n. n ≢ k) (λ v. v.number ≢ k) no_value _ _ (never-permitted executable a n) (λ n c. c) (never-load n a))
-  never_ends (load_c_string_call a out) = never-fitting (λ o. o.number ≢ k) no_output _ (never-c_string (length out) a [])
+  never_ends (load_c_string_call a out) = never-fitting (λ o. o.number ≢ k) no_output _ (never_c_string (length out) a [])
   never_ends get_lr_call = λ r c. own.not_0
   never_ends (set_lr_call x) = λ r c. c
 
@@ -253,7 +253,7 @@ module _ (k : ℕ) (own : Foreign k) where
 
   good_can : (o : Op) (s : State) → Good s → Can k o (does o s).0
   unfolding flag_in or_flag
-  good_can lengths? s w = lengths-reply s w.formed
+  good_can lengths? s w = lengths_reply s w.formed
   good_can size? s w = tt
   good_can lr? s w = tt
   good_can (flag? p) s w =
@@ -278,7 +278,7 @@ module _ (k : ℕ) (own : Foreign k) where
   pub never_clear : (p f : ℕ) (s : State) → WellFormed s → (clear_flag p f s).0 ≢ k
   unfolding clear_flag and_flag
   never_clear p f s w =
-      rw (lengths-reply s w)
+      rw (lengths_reply s w)
       (cases (λ (r : ℕ × State). r.0 ≢ k) (ltb p (length s.flags)) _ _ (λ t. own.not_0) (λ t. own.not_2))
 
 -- ---- 7 and 9

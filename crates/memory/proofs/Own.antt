@@ -3,7 +3,7 @@ use Rattle.std.proofs.Common.{◌≡◌, ℕ, ◌/◌, List, refl}
 use Rattle.bits.specs.Rounding.{page_size}
 use Rattle.program.specs.Program.{run}
 use Rattle.memory.specs.declared.Memory.{Memory}
-use Rattle.memory.specs.Storage.{State, state_of, reserved}
+use Rattle.memory.specs.Storage.{state_of, reserved}
 use Rattle.memory.specs.Operations.{does}
 use Rattle.memory.specs.Sparse.{memory_size, memory_pages, lr, set_lr}
 

@@ -9,8 +9,8 @@ use Rattle.memory.proofs.StoreCases.{cases, PageStored, past, full, wild, took, 
 use Rattle.memory.proofs.WellFormed.{present_lt}
 
 module _ (s : State) (w : WellFormed s) where
-  pub lengths-reply : fits s ≡ true
-  lengths-reply = fits-yes _ _ _ _ w.fit
+  pub lengths_reply : fits s ≡ true
+  lengths_reply = fits-yes _ _ _ _ w.fit
 
   -- a page's flag, or past the machine
   pub flag-reply : (p : ℕ)

@@ -17,15 +17,15 @@ use Rattle.memory.specs.Sparse.{Output, clear_flag}
 use Rattle.memory.specs.View.{WellFormed, Whole, View, view, at_one, flagged, stored, on_page, does_v, clear_flag_v}
 use Rattle.memory.specs.Calls.{Named, program, Given, named, clear_flag_call, answer, told, answers, leaves}
 use Rattle.memory.proofs.StoreCases.{cases, PageStored, past, full, wild, took, had, page-stored}
-use Rattle.memory.proofs.WellFormed.{slot_there, take-formed, op_whole, flag-whole, given-whole, take-lengths, fresh_slot, fresh-done}
+use Rattle.memory.proofs.WellFormed.{slot_there, take-formed, op_whole, flag-whole, given_whole, take-lengths, fresh_slot, fresh-done}
 use Rattle.memory.proofs.Placed.{byte-absent, take-byte, write_placed}
 use Rattle.memory.proofs.Dirty.{or_dirty, cleared-dirty}
-use Rattle.memory.proofs.Replies.{lengths-reply, flag-reply, meet-reply, slot_left}
+use Rattle.memory.proofs.Replies.{lengths_reply, flag-reply, meet-reply, slot_left}
 
 -- a list with another element, as a function of the index
-set-at-one : (l : List ℕ) (p v : ℕ) → p < length l → (λ (q : ℕ). get_or (set l p v) q 0) ≡ at_one (λ (q : ℕ). get_or l q 0) p v
+set_at_one : (l : List ℕ) (p v : ℕ) → p < length l → (λ (q : ℕ). get_or (set l p v) q 0) ≡ at_one (λ (q : ℕ). get_or l q 0) p v
 unfolding at_one
-set-at-one l p v h =
+set_at_one l p v h =
     fun_ext λ q.
     cases (λ (x : ℕ). get_or (set l p v) q 0 ≡ x) (eqb q p) _ _
     (λ e. ap (λ (k : ℕ). get_or (set l p v) k 0) (eqb-true q p e) ∙ get_or-set_same l p v 0 h)
@@ -38,7 +38,7 @@ pub flag-seen : (s : State) → WellFormed s → (p f : ℕ) → p < s.memory.si
     → view (state_of s.slots (set s.flags p f) s.area s.memory) ≡ flagged (view s) p f
 flag-seen s w p f h =
     ap (λ (g : ℕ → ℕ). record { byte = byte_at s; flag = g; size = s.memory.size; reservation = s.memory.reservation })
-    (set-at-one s.flags p f (omega (arith, w.fit.flags_are)))
+    (set_at_one s.flags p f (omega (arith, w.fit.flags_are)))
 
 -- bytes written
 write_seen : (s : State) → WellFormed s → (a : ℕ) (bytes : List ℕ) → a / page_size < s.memory.size / page_size
@@ -48,7 +48,7 @@ unfolding write_page
 write_seen s w a bytes h n f = λ i.
     record {
       byte = write_placed s w a bytes n f i;
-      flag = set-at-one s.flags (a / page_size) (bit_or (get_or s.flags (a / page_size) 0) dirty) (omega (arith, w.fit.flags_are)) i;
+      flag = set_at_one s.flags (a / page_size) (bit_or (get_or s.flags (a / page_size) 0) dirty) (omega (arith, w.fit.flags_are)) i;
       size = s.memory.size;
       reservation = s.memory.reservation;
     }
@@ -107,7 +107,7 @@ flag-like s w p f = rw w.formed.fit.flags_are (go (ltb p (s.memory.size / page_s
 
 pub like : (o : Op) (s : State) → Whole s → Like Whole view (does o s) (does_v o (view s))
 unfolding or_flag
-like lengths? s w = looks s w _ _ (lengths-reply s w.formed)
+like lengths? s w = looks s w _ _ (lengths_reply s w.formed)
 like size? s w = looks s w _ _ refl
 like lr? s w = looks s w _ _ refl
 like (flag? p) s w = looks s w _ _ (flag-reply s w.formed p)
@@ -129,7 +129,7 @@ seen c s w = program-seen (program c) s w
 
 pub clear_seen : (p f : ℕ) (s : State) → Whole s → Like Whole view (clear_flag p f s) (clear_flag_v p f (view s))
 unfolding clear_flag and_flag
-clear_seen p f s w = rw (lengths-reply s w.formed) (flag-like s w p _)
+clear_seen p f s w = rw (lengths_reply s w.formed) (flag-like s w p _)
 
 -- ---- memories that look alike
 
@@ -164,7 +164,7 @@ unfolding answers leaves
 equal_calls [] s t ws wt e = (refl, e)
 equal_calls (g ∷ gs) s t ws wt e =
     let h = equal_given g s t ws wt e in
-    let r = equal_calls gs _ _ (given-whole g s ws) (given-whole g t wt) h.1 in
+    let r = equal_calls gs _ _ (given_whole g s ws) (given_whole g t wt) h.1 in
     (ap₂ {C = List Output} (λ x l. told g x ∷ l) h.0 r.0, r.1)
 
 -- ---- no operation changes the size
@@ -186,17 +186,17 @@ op_size_seen (lr! x) v = refl
 -- ---- no operation clears a dirty flag
 
 -- f at p, of which no dirty flag is made clean
-at-one-dirty : (flag : ℕ → ℕ) (p f : ℕ) → (bit_and f dirty ≡ 0 → bit_and (flag p) dirty ≡ 0)
+at_one_dirty : (flag : ℕ → ℕ) (p f : ℕ) → (bit_and f dirty ≡ 0 → bit_and (flag p) dirty ≡ 0)
     → (q : ℕ) → bit_and (at_one flag p f q) dirty ≡ 0 → bit_and (flag q) dirty ≡ 0
 unfolding at_one
-at-one-dirty flag p f h q =
+at_one_dirty flag p f h q =
     cases (λ (x : ℕ). bit_and x dirty ≡ 0 → bit_and (flag q) dirty ≡ 0) (eqb q p) _ _
     (λ e c. rw (eqb-true q p e) (h c))
     (λ e c. c)
 
-on-page-dirty : (v : View) (p : ℕ) (w : View) → ((q : ℕ) → bit_and (w.flag q) dirty ≡ 0 → bit_and (v.flag q) dirty ≡ 0)
+on_page_dirty : (v : View) (p : ℕ) (w : View) → ((q : ℕ) → bit_and (w.flag q) dirty ≡ 0 → bit_and (v.flag q) dirty ≡ 0)
     → (q : ℕ) → bit_and ((on_page v p w).1.flag q) dirty ≡ 0 → bit_and (v.flag q) dirty ≡ 0
-on-page-dirty v p w h q =
+on_page_dirty v p w h q =
     cases (λ (r : ℕ × View). bit_and (r.1.flag q) dirty ≡ 0 → bit_and (v.flag q) dirty ≡ 0) (ltb p (v.size / page_size)) _ _
     (λ e. h q)
     (λ e c. c)
@@ -210,8 +210,8 @@ op_dirty (meet? p) v q c = c
 op_dirty (byte? a) v q c = c
 op_dirty (bytes? a n) v q c = c
 op_dirty (part! a bytes) v q c =
-    on-page-dirty v _ _ (at-one-dirty v.flag _ _ (or_dirty (v.flag (a / page_size)) dirty)) q c
-op_dirty (or! p f) v q c = on-page-dirty v _ _ (at-one-dirty v.flag _ _ (or_dirty (v.flag p) f)) q c
+    on_page_dirty v _ _ (at_one_dirty v.flag _ _ (or_dirty (v.flag (a / page_size)) dirty)) q c
+op_dirty (or! p f) v q c = on_page_dirty v _ _ (at_one_dirty v.flag _ _ (or_dirty (v.flag p) f)) q c
 op_dirty (lr! x) v q c = c
 
 pub program-dirty : {A : Type 0} (g : Call A) (v : View) (q : ℕ) → bit_and ((run does_v g v).1.flag q) dirty ≡ 0
@@ -222,7 +222,7 @@ program-dirty g v q =
 -- nor does a direct clear of other bits
 pub clear_dirty : (p f : ℕ) (v : View) → f < 256 → bit_and f dirty ≡ 0
     → (q : ℕ) → bit_and ((clear_flag_v p f v).1.flag q) dirty ≡ 0 → bit_and (v.flag q) dirty ≡ 0
-clear_dirty p f v h n q c = on-page-dirty v _ _ (at-one-dirty v.flag _ _ (cleared-dirty (v.flag p) f h n)) q c
+clear_dirty p f v h n q c = on_page_dirty v _ _ (at_one_dirty v.flag _ _ (cleared-dirty (v.flag p) f h n)) q c
 
 -- ---- a fresh memory
 

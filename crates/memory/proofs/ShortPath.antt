@@ -204,5 +204,5 @@ module _ (s : State) (a n slot v : ℕ) (g : SlotHere s.slots (length s.flags) (
             (load-there s a n 0 true some small met refl refl o.inside slot o.slot_is z o.fit v w);
       }
 
-pub here-loaded : (s : State) (a n v : ℕ) (d : Bool) → LoadHere d v s a n → d ≡ true → (valued v, s) ≡ run does (load_wide n a) s
-here-loaded s a n v d g e = g.yes e
+pub here_loaded : (s : State) (a n v : ℕ) (d : Bool) → LoadHere d v s a n → d ≡ true → (valued v, s) ≡ run does (load_wide n a) s
+here_loaded s a n v d g e = g.yes e

@@ -156,10 +156,10 @@ module _ {s₀ : State} {page₀ at₀ : ℕ} {bytes₀ : List ℕ} {s : State} 
       on = rw (take_all (length bytes - n) (drop n bytes) (simp length-drop (omega arith))) over
 
 -- a page that was stored to has a next one
-pub page-next : (s t : State) (page at k : ℕ) (d : Bool) (piece : List ℕ) → d ≡ true → d ≡ eqb k 0 → (k, t) ≡ store_page s page at piece
+pub page_next : (s t : State) (page at k : ℕ) (d : Bool) (piece : List ℕ) → d ≡ true → d ≡ eqb k 0 → (k, t) ≡ store_page s page at piece
     → Fitting (length s.slots) (length s.flags) (length s.area) s.memory
     → Fits w64 (page + 1)
-page-next s t page at k d piece c i e f = omega (arith, stored_there s t page at k piece e (eqb-true k 0 (sym i ∙ c)))
+page_next s t page at k d piece c i e f = omega (arith, stored_there s t page at k piece e (eqb-true k 0 (sym i ∙ c)))
 
 -- a piece is as long as was cut
 pub piece_length : (bytes : List ℕ) (room n : ℕ) → n ≡ min room (length bytes) → n ≡ length (take n bytes)

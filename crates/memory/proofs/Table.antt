@@ -18,7 +18,7 @@ use Rattle.memory.specs.View.{View, Whole, view, placed, at_one, stored, does_v}
 use Rattle.memory.proofs.Lengths.{fit-yes}
 use Rattle.memory.proofs.StoreCases.{cases}
 use Rattle.memory.proofs.WellFormed.{fresh-told, fresh-whole, program-lengths}
-use Rattle.memory.proofs.Replies.{lengths-reply}
+use Rattle.memory.proofs.Replies.{lengths_reply}
 use Rattle.memory.proofs.Seen.{blank, program-seen, fresh-seen}
 
 -- "Page indices of (address, size)"
@@ -120,7 +120,7 @@ module _ (s : State) (w : Whole s) (look : view s ≡ blank 16384) (b c : ℕ) w
             run does (wxorx.store_bytes 16383 (b ∷ c ∷ [])) (state_of s.slots l s.area s.memory)
             ≡ (2, state_of s.slots l s.area s.memory))
             flags_none
-            (wxorx_run b c s.slots s.area s.memory (rw pages at (sym (lengths-reply s w.formed))));
+            (wxorx_run b c s.slots s.area s.memory (rw pages at (sym (lengths_reply s w.formed))));
       }
 
 -- ---- the table

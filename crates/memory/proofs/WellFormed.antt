@@ -271,8 +271,8 @@ program-whole g s w = kept does Whole op_whole g s w
 pub call_kept : (c : Named) (s : State) → WellFormed s → WellFormed (run does (program c) s).1
 call_kept c s w = program-kept (program c) s w
 
-pub call-whole : (c : Named) (s : State) → Whole s → Whole (run does (program c) s).1
-call-whole c s w = program-whole (program c) s w
+pub call_whole : (c : Named) (s : State) → Whole s → Whole (run does (program c) s).1
+call_whole c s w = program-whole (program c) s w
 
 pub clear_kept : (p f : ℕ) (s : State) → WellFormed s → WellFormed (clear_flag p f s).1
 unfolding clear_flag and_flag
@@ -287,23 +287,23 @@ clear_whole p f s w =
     record { formed = clear_kept p f s w.formed; roomy = roomy-same s _ (clear_lengths p f s) w.roomy }
 
 -- calls in turn
-pub given-kept : (g : Given) (s : State) → WellFormed s → WellFormed (answer g s).1
-given-kept (named c) s w = call_kept c s w
-given-kept (clear_flag_call p f) s w = clear_kept p f s w
+pub given_kept : (g : Given) (s : State) → WellFormed s → WellFormed (answer g s).1
+given_kept (named c) s w = call_kept c s w
+given_kept (clear_flag_call p f) s w = clear_kept p f s w
 
-pub given-whole : (g : Given) (s : State) → Whole s → Whole (answer g s).1
-given-whole (named c) s w = call-whole c s w
-given-whole (clear_flag_call p f) s w = clear_whole p f s w
+pub given_whole : (g : Given) (s : State) → Whole s → Whole (answer g s).1
+given_whole (named c) s w = call_whole c s w
+given_whole (clear_flag_call p f) s w = clear_whole p f s w
 
 pub calls-kept : (gs : List Given) (s : State) → WellFormed s → WellFormed (leaves gs s)
 unfolding leaves
 calls-kept [] s w = w
-calls-kept (g ∷ gs) s w = calls-kept gs _ (given-kept g s w)
+calls-kept (g ∷ gs) s w = calls-kept gs _ (given_kept g s w)
 
 pub calls-whole : (gs : List Given) (s : State) → Whole s → Whole (leaves gs s)
 unfolding leaves
 calls-whole [] s w = w
-calls-whole (g ∷ gs) s w = calls-whole gs _ (given-whole g s w)
+calls-whole (g ∷ gs) s w = calls-whole gs _ (given_whole g s w)
 
 -- ---- a fresh memory
 

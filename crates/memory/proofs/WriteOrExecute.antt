@@ -18,9 +18,9 @@ use Rattle.memory.proofs.Store.{store_at, wide_bytes}
 -- ---- the bounds of `init_pages`
 
 -- a number that both cases come to
-other-same : (k x : ℕ) (b : Bool) → (b ≡ false → k ≡ x) → k ≡ cond b k x
-other-same k x true h = refl
-other-same k x false h = h refl
+other_same : (k x : ℕ) (b : Bool) → (b ≡ false → k ≡ x) → k ≡ cond b k x
+other_same k x true h = refl
+other_same k x false h = h refl
 
 first-same : (k x : ℕ) (b : Bool) → (b ≡ true → k ≡ x) → k ≡ cond b x k
 first-same k x true h = h refl
@@ -39,10 +39,10 @@ module _ (m a size lead : ℕ) where
     unfolding in_bounds
     bounds_past n =
         rw (eq-eqb (rounded_down a) a e, eq-eqb (rounded_up size) size f)
-        (other-same 2 _ (ltb m a) (λ _.
-        other-same 2 _ (ltb m size) (λ _.
-        other-same 2 _ (ltb m (a + size)) (λ k.
-        other-same 2 0 (ltb size lead) (λ l. absurd (n (ltb-false m (a + size) k) (ltb-false size lead l)))))))
+        (other_same 2 _ (ltb m a) (λ _.
+        other_same 2 _ (ltb m size) (λ _.
+        other_same 2 _ (ltb m (a + size)) (λ k.
+        other_same 2 0 (ltb size lead) (λ l. absurd (n (ltb-false m (a + size) k) (ltb-false size lead l)))))))
 
     pub bounds_kept : a + size ≤ m → lead ≤ size → 0 ≡ in_bounds m a size lead
     unfolding in_bounds

@@ -1,5 +1,5 @@
 -- The calls of sparse memory, and those of memory/mod.rs on it.
-use Rattle.std.specs.Prelude.{ℕ, zero, suc, ◌+◌, ◌-◌, ◌*◌, ◌/◌, ◌%◌, min, cond, List, [], ◌∷◌, ◌++◌, length, take, drop, ◌==◌, bit_and, nat_lt}
+use Rattle.std.specs.Prelude.{ℕ, zero, suc, ◌+◌, ◌-◌, ◌/◌, min, cond, List, [], ◌∷◌, ◌++◌, length, take, drop, ◌==◌, bit_and, nat_lt}
 use Rattle.bits.specs.Rounding.{page_size}
 use Rattle.words.specs.Bytes.{filled}
 use Rattle.words.specs.LittleEndian.{from_le, to_le}

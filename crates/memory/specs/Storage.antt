@@ -1,5 +1,5 @@
 -- Lent storage: its lengths, a page's slot and bytes, one page fetched and written, and a fresh memory.
-use Rattle.std.specs.Prelude.{◌≡◌, ℕ, zero, suc, ◌+◌, ◌-◌, ◌*◌, ◌/◌, ◌%◌, ◌^◌, ◌≤◌, min, Bool, true, false, cond, List, [], ◌∷◌, length, set, ◌==◌, bit_or, nat_le, nat_lt, slice_index, slice_index_or, slice_set}
+use Rattle.std.specs.Prelude.{◌≡◌, ℕ, zero, suc, ◌+◌, ◌-◌, ◌*◌, ◌/◌, ◌%◌, ◌^◌, ◌≤◌, min, Bool, false, cond, List, [], ◌∷◌, length, ◌==◌, bit_or, nat_le, nat_lt, slice_index, slice_index_or, slice_set}
 use Rattle.bits.specs.Rounding.{page_size}
 use Rattle.words.specs.Bytes.{written, filled}
 use Rattle.memory.specs.Pages.{maximum, dirty, cleared}

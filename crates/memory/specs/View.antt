@@ -1,5 +1,5 @@
 -- What a caller sees of a memory: bytes, flags, size and reservation. Slot numbers and the order of slots are not in it.
-use Rattle.std.specs.Prelude.{◌≡◌, ℕ, zero, suc, ◌+◌, ◌-◌, ◌/◌, ◌<◌, ◌≤◌, Bool, true, cond, ◌≢◌, List, [], ◌∷◌, length, take, ◌==◌, bit_or, nat_lt, slice_index}
+use Rattle.std.specs.Prelude.{◌≡◌, ℕ, suc, ◌+◌, ◌-◌, ◌/◌, ◌<◌, ◌≤◌, true, cond, ◌≢◌, List, [], ◌∷◌, length, take, ◌==◌, bit_or, nat_lt, slice_index}
 use Rattle.bits.specs.Rounding.{page_size}
 use Rattle.memory.specs.Pages.{dirty, cleared}
 use Rattle.memory.specs.Storage.{State, Fitting, absent, slot_in, byte_at, span, in_page, valued, no_value}

@@ -11,7 +11,7 @@ use bits::RISCV_PAGESIZE;
 const NONE: usize = 18446744073709551615;
 
 // Whether a number was loaded, and the number: else 0.
-#[derive(Drop)]
+#[derive(Clone, Copy)]
 pub struct Found {
     pub done: bool,
     pub value: u64,

@@ -12,6 +12,8 @@
 // Every call answers on every input, and looks at the lengths of the lent storage first (refusal 9). What it answers and
 // leaves is one program of specs/ (Sparse.antt, WXorX.antt), run on the lent lists. Stores of bytes and stores and loads of
 // numbers first try what most of them are, bytes in one page that is in a slot (here.rt).
+#![tactic(auto)]
+
 mod here;
 mod load;
 mod page;
@@ -59,7 +61,7 @@ pub const NO_RESERVATION: u64 = 18446744073709551615;
 
 // A memory's own numbers: its bytes, its slots in use (the lowest so many), and the reservation.
 #[repr(C)]
-#[derive(Drop)]
+#[derive(Clone, Copy)]
 pub struct Memory {
     pub size: u64,
     pub used: u64,
@@ -67,21 +69,21 @@ pub struct Memory {
 }
 
 // What a call answers that may change the memory's numbers.
-#[derive(Drop)]
+#[derive(Clone, Copy)]
 pub struct Answer {
     pub outcome: Outcome,
     pub memory: Memory,
 }
 
 // What a call answers that reads a number: 0 where it refuses.
-#[derive(Drop)]
+#[derive(Clone, Copy)]
 pub struct Value {
     pub outcome: Outcome,
     pub value: u64,
 }
 
 // The first and the last page of bytes from an address on: 0 where it refuses.
-#[derive(Drop)]
+#[derive(Clone, Copy)]
 pub struct Indices {
     pub outcome: Outcome,
     pub first: u64,

@@ -17,7 +17,7 @@ use bits::RISCV_PAGESIZE;
 use outcome::Outcome;
 
 // A page that can be written, or why it can't: its slot, and the memory with the slots now in use.
-#[derive(Drop)]
+#[derive(Clone, Copy)]
 pub struct Fetched {
     pub outcome: Outcome,
     pub slot: usize,
@@ -25,7 +25,7 @@ pub struct Fetched {
 }
 
 // An address, taken apart: a page and an index in it.
-#[derive(Drop)]
+#[derive(Clone, Copy)]
 pub struct Place {
     pub page: u64,
     pub at: usize,

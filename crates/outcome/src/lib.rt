@@ -4,10 +4,12 @@
 // in the table's words. `number_of` (specs/Numbers.antt) is the number of each case, and the promises of all
 // calls speak through it. `number` computes it for hosts, `is_done` tells 0 from every refusal.
 // That no two cases share a number is proofs/Numbers.antt.
+#![tactic(auto)]
+
 ghost use Rattle.std.specs.Prelude.{◌≡◌};
 ghost use Rattle.outcome.specs.Numbers.{number_of, is_done};
 
-#[derive(Drop)]
+#[derive(Clone, Copy)]
 pub enum Outcome {
     // 0: done.
     Done,

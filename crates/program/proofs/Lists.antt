@@ -1,12 +1,12 @@
 -- Programs over lists: what questions that change nothing come to, and steps for each element in turn.
-use mathlib.Core.Path.{◌≡◌, refl, sym, ap, ◌∙◌}
-use mathlib.Core.Bool.{Bool, true, false, cond}
+use mathlib.Core.Path.{◌≡◌, refl, ap, ◌∙◌}
+use mathlib.Core.Bool.{Bool, true, false}
 use mathlib.Core.List.{List, [], ◌∷◌, map}
 use Prim.Native.Nat.{ℕ, zero, suc, ◌+◌}
 use lib.Dec.{eqb}
 use lib.ListN.{length}
-use Rattle.program.specs.Program.{Prog, ret, ask, run, bind, onwards, after, and_then, along, collect, collect_in, each_in}
-use Rattle.program.proofs.Laws.{run_bind, then_done, then_stop, after_run}
+use Rattle.program.specs.Program.{Prog, ret, run, bind, along, collect, collect_in, each_in}
+use Rattle.program.proofs.Laws.{run_bind, then_done, then_stop}
 
 pub length-along : {A : Type 0} (f : ℕ → A) (n p : ℕ) → length (along f n p) ≡ n
 unfolding along

@@ -4,3 +4,5 @@
 // storage: `run does` runs it on lent lists, which is what a promise cites, and `run does_v` on what a caller
 // sees of them, which is what the theorems speak of. That both agree is shown for each operation once, and
 // then holds for every program (proofs/Like.antt). There is no code here.
+
+#![tactic(auto)]

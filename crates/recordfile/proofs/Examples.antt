@@ -1,7 +1,7 @@
 -- Worked examples: document 01's Session A, and files that are not in the form.
 use mathlib.Core.Path.{◌≡◌, refl}
 use mathlib.Core.List.{List, [], ◌∷◌, ◌++◌}
-use Prim.Native.Nat.{ℕ, zero, suc, ◌+◌, ◌*◌, ◌-◌, ◌^◌}
+use Prim.Native.Nat.{ℕ, zero, suc, ◌*◌, ◌-◌, ◌^◌}
 use native.Mathlib.Omega.{arith}
 use lib.ListN.{length, length-append}
 use Rattle.bits.specs.Rounding.{page_size}
@@ -68,9 +68,9 @@ three_pages : in_form (image_of session_a) 12288 ≡ 0
 unfolding in_form
 three_pages = rw session_a_judged
 
-two-pages : in_form (image_of session_a) 8192 ≡ 11
+two_pages : in_form (image_of session_a) 8192 ≡ 11
 unfolding in_form
-two-pages = rw session_a_judged
+two_pages = rw session_a_judged
 
 a_byte_more : in_form (image_of session_a) 12289 ≡ 11
 unfolding in_form
@@ -157,9 +157,9 @@ unfolding records_need registers_need runs_need dirty_needs
 dirty-before-source = refl
 
 -- "Place is the sum of pages of the dirty runs before it."
-wrong-place : records_need (state ∷ (registers ++ (source ∷ first ∷ Dirty 8192 4 2 2 ∷ []))) ≡ malformed
+wrong_place : records_need (state ∷ (registers ++ (source ∷ first ∷ Dirty 8192 4 2 2 ∷ []))) ≡ malformed
 unfolding records_need registers_need runs_need dirty_needs
-wrong-place = refl
+wrong_place = refl
 
 -- "Eight, in order."
 nine-registers : records_need (state ∷ (registers ++ (Registers 32 0 0 0 0 ∷ source ∷ first ∷ []))) ≡ malformed

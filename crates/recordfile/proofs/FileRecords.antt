@@ -15,7 +15,7 @@ use Rattle.recordfile.specs.Records.{state_kind, registers_kind, source_kind, di
 use Rattle.recordfile.specs.Snapshots.{Word, Each, image_of}
 use Rattle.recordfile.specs.declared.Record.{Record}
 use Rattle.recordfile.specs.declared.Record.TheVariants.{State, Registers, Source, Dirty, Bad}
-use Rattle.recordfile.proofs.FileWords.{length-image, small-append, small-image, length-words_at, words_read, words-image, words-ranged}
+use Rattle.recordfile.proofs.FileWords.{length-image, small-append, small-image, length-words_at, words_read, words-image, words_ranged}
 
 -- ---- a record and its words
 
@@ -77,16 +77,16 @@ listed : List ℕ → ℕ → ℕ → List ℕ
 listed l at zero = []
 listed l at (suc n) = get_or l at 0 ∷ listed l (suc at) n
 
-listed-all : (l : List ℕ) (at n : ℕ) → at + n ≡ length l → drop at l ≡ listed l at n
+listed_all : (l : List ℕ) (at n : ℕ) → at + n ≡ length l → drop at l ≡ listed l at n
 unfolding listed
-listed-all l at zero h = let e : at ≡ length l = omega arith in rw (e, drop-length)
-listed-all l at (suc n) h = drop-cons l at 0 (omega arith) ∙ ap (λ (t : List ℕ). get_or l at 0 ∷ t) (listed-all l (suc at) n (omega arith))
+listed_all l at zero h = let e : at ≡ length l = omega arith in rw (e, drop-length)
+listed_all l at (suc n) h = drop-cons l at 0 (omega arith) ∙ ap (λ (t : List ℕ). get_or l at 0 ∷ t) (listed_all l (suc at) n (omega arith))
 
 -- words that are a record are that record's words, and the record is in range
 module _ (ws : List ℕ) (six : length ws ≡ record_words) (sound : Sound (of_words ws)) where
   pub words_back : words_of (of_words ws) ≡ ws
   unfolding listed
-  words_back = (says _ _ _ _ _ _).words sound ∙ sym (listed-all ws 0 record_words (sym six))
+  words_back = (says _ _ _ _ _ _).words sound ∙ sym (listed_all ws 0 record_words (sym six))
 
   pub words-told : Told (of_words ws)
   words-told = (says _ _ _ _ _ _).told sound
@@ -122,7 +122,7 @@ module _ (file : List ℕ) (small : Small file) (i : ℕ) (there : i < count_in 
   read_held sound =
       let n : Sound (of_words ws) = rw is at sound in
       let six : length ws ≡ record_words = length-words_at file (i * record_bytes) record_words in
-      let w : Each Word (words_of (of_words ws)) = rw (words_back ws six n) (words-ranged file (i * record_bytes) record_words small) in
+      let w : Each Word (words_of (of_words ws)) = rw (words_back ws six n) (words_ranged file (i * record_bytes) record_words small) in
       rw is (record { told = words-told ws six n; words = w })
 
   -- and written again it is the bytes that were read
@@ -190,11 +190,15 @@ records_read (r ∷ rs) pre post i (suc n) hn h each =
     let b : List ℕ = image (words_of r) in
     let lb : length b ≡ record_bytes = length_record r in
     let one : pre ++ ((b ++ image_of rs) ++ post) ≡ pre ++ (b ++ (image_of rs ++ post)) = simp append_assoc in
+    let whole : pre ++ (image_of (r ∷ rs) ++ post) ≡ pre ++ (b ++ (image_of rs ++ post)) = one in
     let split : pre ++ (b ++ (image_of rs ++ post)) ≡ (pre ++ b) ++ (image_of rs ++ post) = simp append_assoc in
     let first : record_at (pre ++ (b ++ (image_of rs ++ post))) i ≡ r = record_read r pre (image_of rs ++ post) i each.0 h in
     let rest : records_from ((pre ++ b) ++ (image_of rs ++ post)) (i + 1) n ≡ rs =
     records_read rs (pre ++ b) post (i + 1) n (omega arith) (simp (length-append, lb) (omega arith)) each.1 in
-    rw (one, first, split, rest)
+    ap (λ (f : List ℕ). record_at f i ∷ records_from f (i + 1) n) whole
+    ∙ ap (λ (s : Record). s ∷ records_from (pre ++ (b ++ (image_of rs ++ post))) (i + 1) n) first
+    ∙ ap (λ (f : List ℕ). r ∷ records_from f (i + 1) n) split
+    ∙ ap (λ (ts : List Record). r ∷ ts) rest
 
 -- ---- a whole file of records
 
@@ -208,7 +212,7 @@ pub count_image_of : (rs : List Record) → count_in (image_of rs) ≡ length rs
 count_image_of rs = let l : length (image_of rs) ≡ record_bytes * length rs = length_image_of rs in omega arith
 
 -- records written and read
-pub records-back : (rs : List Record) → Each Held rs → records_in (image_of rs) ≡ rs
-records-back rs each =
+pub records_back : (rs : List Record) → Each Held rs → records_in (image_of rs) ≡ rs
+records_back rs each =
     let e : image_of rs ++ [] ≡ image_of rs = append-nil (image_of rs) in
     rw e at (records_read rs [] [] 0 (count_in (image_of rs)) (count_image_of rs) refl each)

@@ -1,5 +1,5 @@
 -- Words in a file: words written and read, bytes read and written, over any number of words at any place.
-use mathlib.Core.Path.{◌≡◌, refl, sym, ap}
+use mathlib.Core.Path.{◌≡◌, refl, sym, ap, ◌∙◌}
 use mathlib.Core.List.{List, [], ◌∷◌, ◌++◌, append_assoc}
 use Prim.Native.Nat.{ℕ, zero, suc, ◌+◌, ◌*◌, ◌^◌, ◌≤◌, ◌<◌}
 use native.Mathlib.Nat.{pow-succ', pow-le-pow_right}
@@ -33,13 +33,14 @@ words_read (w ∷ ws) pre post at zero hn ha each = absurd (omega arith)
 words_read (w ∷ ws) pre post at (suc n) hn ha each =
     let b : List ℕ = to_le word_bytes w in
     let lb : length b ≡ word_bytes = length-to_le word_bytes w in
-    let split : pre ++ ((b ++ image ws) ++ post) ≡ (pre ++ b) ++ (image ws ++ post) = simp append_assoc in
+    let again : pre ++ ((b ++ image ws) ++ post) ≡ (pre ++ b) ++ (image ws ++ post) = simp append_assoc in
+    let split : pre ++ (image (w ∷ ws) ++ post) ≡ (pre ++ b) ++ (image ws ++ post) = again in
     let here : part (pre ++ ((b ++ image ws) ++ post)) at word_bytes ≡ b =
     rw (drop_at pre ((b ++ image ws) ++ post) at (sym ha), append_assoc, take_at b (image ws ++ post) word_bytes lb) in
     let first : from_le (part (pre ++ ((b ++ image ws) ++ post)) at word_bytes) ≡ w = rw here (from_le-fits word_bytes w each.0) in
     let rest : words_at ((pre ++ b) ++ (image ws ++ post)) (at + word_bytes) n ≡ ws =
     words_read ws (pre ++ b) post (at + word_bytes) n (omega arith) (simp (length-append, lb) (omega arith)) each.1 in
-    rw (first, split, rest)
+    rw first (ap (λ (ts : List ℕ). w ∷ ts) (ap (λ (f : List ℕ). words_at f (at + word_bytes) n) split ∙ rest))
 
 -- bytes that are read as words are the image of those words
 pub words-image : (file : List ℕ) (at n : ℕ) → Small file → at + word_bytes * n ≤ length file
@@ -74,12 +75,12 @@ from_le-small (b ∷ l) small =
     rw pow-succ' (omega arith)
 
 -- what is read from bytes are words
-pub words-ranged : (file : List ℕ) (at n : ℕ) → Small file → Each Word (words_at file at n)
+pub words_ranged : (file : List ℕ) (at n : ℕ) → Small file → Each Word (words_at file at n)
 unfolding words_at Each
-words-ranged file at zero small = record {}
-words-ranged file at (suc n) small =
+words_ranged file at zero small = record {}
+words_ranged file at (suc n) small =
     let p : List ℕ = part file at word_bytes in
     let h : from_le p < 256 ^ length p = from_le-small p (small-part file at word_bytes small) in
     let l : length p ≤ word_bytes = rw length-take (omega arith) in
     let k : 256 ^ length p ≤ 256 ^ word_bytes = pow-le-pow_right (omega arith) l in
-    (omega arith, words-ranged file (at + word_bytes) n small)
+    (omega arith, words_ranged file (at + word_bytes) n small)

@@ -13,10 +13,10 @@ use Rattle.recordfile.specs.Words.{record_bytes}
 use Rattle.recordfile.specs.Records.{count_in, records_in}
 use Rattle.recordfile.specs.Form.{Form, malformed, needs, least_records, most_records, records_need, judged, beside, in_form}
 use Rattle.recordfile.specs.Snapshots.{Snapshot, of_records, snapshot_in, records_of, image_of, file_of, contents, page_file_of, Word, Each, Ranged}
-use Rattle.recordfile.proofs.FileRecords.{Sound, Held, length_image_of, small_image_of, count_image_of, length-records_from, records-held, file_again, records-back}
+use Rattle.recordfile.proofs.FileRecords.{Sound, Held, length_image_of, small_image_of, count_image_of, length-records_from, records-held, file_again, records_back}
 use Rattle.recordfile.proofs.SnapshotRecords.{Shaped, contents-whole, length-records_of, records-need, shaped_read}
 use Rattle.recordfile.proofs.SnapshotForm.{passed, SnapshotIs, snapshot-is}
-use Rattle.recordfile.proofs.SnapshotRanged.{records-sound, ranged-held, ranged-shaped, held-ranged}
+use Rattle.recordfile.proofs.SnapshotRanged.{records-sound, ranged_held, ranged_shaped, held_ranged}
 
 -- ---- what a file in the form has
 
@@ -94,7 +94,7 @@ module _ (file page_file : List ℕ) (small : Small file) (ok : in_form file (le
       let s : Snapshot = held.snapshot in
       let h : Each Held (records_of s) = rw held.records (records-held file 0 (count_in file) small (omega arith) sound) in
       let n : length (records_of s) ≡ count_in file = ap length held.records ∙ length-records_from file 0 (count_in file) in
-      rw is_read (held-ranged s held.shaped h (omega (arith, length-records_of s, a.few)) (rw held.pages pages))
+      rw is_read (held_ranged s held.shaped h (omega (arith, length-records_of s, a.few)) (rw held.pages pages))
 
 -- ---- written, then read
 
@@ -113,8 +113,8 @@ pub read_back : (s : Snapshot) → Ranged s
     → (in_form (file_of s) (length (page_file_of s)) ≡ 0) × (snapshot_in (file_of s) (page_file_of s) ≡ s)
 unfolding file_of page_file_of snapshot_in
 read_back s ranged =
-    let shaped : Shaped s = ranged-shaped s ranged in
-    let rs : records_in (image_of (records_of s)) ≡ records_of s = records-back (records_of s) (ranged-held s ranged) in
+    let shaped : Shaped s = ranged_shaped s ranged in
+    let rs : records_in (image_of (records_of s)) ≡ records_of s = records_back (records_of s) (ranged_held s ranged) in
     let n : count_in (image_of (records_of s)) ≡ least_records + (length s.sources + length s.dirty) =
     count_image_of (records_of s) ∙ length-records_of s in (
       accepts (image_of (records_of s)) (length (page_file_of s))

@@ -115,9 +115,9 @@ dirty-held place (d ∷ ds) h each =
       dirty-held (place + pages_of d) ds (omega arith) each.1,
     )
 
-pub ranged-held : (s : Snapshot) → Ranged s → Each Held (records_of s)
+pub ranged_held : (s : Snapshot) → Ranged s → Each Held (records_of s)
 unfolding Each page_file_of
-ranged-held s r =
+ranged_held s r =
     let q : Each Held (source_records s.sources ++ dirty_records 0 s.dirty) =
     each_append
     Held
@@ -143,21 +143,21 @@ unfolding Each
 dirty-whole [] each = record {}
 dirty-whole (d ∷ ds) each = (each.0.whole, dirty-whole ds each.1)
 
-pub ranged-shaped : (s : Snapshot) → Ranged s → Shaped s
-ranged-shaped s r = record { registers_are = r.registers_are; whole = dirty-whole s.dirty r.dirty_ranged }
+pub ranged_shaped : (s : Snapshot) → Ranged s → Shaped s
+ranged_shaped s r = record { registers_are = r.registers_are; whole = dirty-whole s.dirty r.dirty_ranged }
 
 -- ---- a snapshot is in range if a file can hold its records
 
-registers-ranged : (registers : List ℕ) (next n : ℕ) → next + registers_a_record * n ≡ length registers
+registers_ranged : (registers : List ℕ) (next n : ℕ) → next + registers_a_record * n ≡ length registers
     → Each Held (register_records_of registers next n) → Each Word (drop next registers)
 unfolding Each register_records_of
-registers-ranged registers next zero h each = let e : next ≡ length registers = omega arith in rw (e, drop-length) (record {})
-registers-ranged registers next (suc n) h each =
+registers_ranged registers next zero h each = let e : next ≡ length registers = omega arith in rw (e, drop-length) (record {})
+registers_ranged registers next (suc n) h each =
     let r : Record =
     Registers next (get_or registers next 0) (get_or registers (next + 1) 0) (get_or registers (next + 2) 0) (get_or registers (next + 3) 0) in
     let w : (i : ℕ) → Word (get_or (words_of r) i 0) = λ i. word_at (words_of r) i each.0.words in
     let q : Each Word (drop (next + registers_a_record) registers) =
-    registers-ranged registers (next + registers_a_record) n (omega arith) each.1 in
+    registers_ranged registers (next + registers_a_record) n (omega arith) each.1 in
     rw (four_more registers next (omega arith)) (w 2, (w 3, (w 4, (w 5, q))))
 
 sources_ranged : (ss : List SourceRun) → Each Held (source_records ss) → Each SourceRanged ss
@@ -179,10 +179,10 @@ dirty_ranged place (d ∷ ds) each whole =
       dirty_ranged (place + pages_of d) ds each.1 whole.1,
     )
 
-pub held-ranged : (s : Snapshot) → Shaped s → Each Held (records_of s)
+pub held_ranged : (s : Snapshot) → Shaped s → Each Held (records_of s)
     → least_records + (length s.sources + length s.dirty) ≤ most_records → Word (length (page_file_of s)) → Ranged s
 unfolding Each
-held-ranged s shaped each few pages =
+held_ranged s shaped each few pages =
     let k : Held (state_record s.state) = each.0 in
     let w : (i : ℕ) → Word (get_or (words_of (state_record s.state)) i 0) = λ i. word_at (words_of (state_record s.state)) i k.words in
     let registers : List Record = register_records_of s.registers 0 register_records in
@@ -197,7 +197,7 @@ held-ranged s shaped each few pages =
       reservation_word = w 5;
       registers_are = shaped.registers_are;
       register_words =
-          registers-ranged s.registers 0 register_records (sym shaped.registers_are) (each_left Held registers (sources ++ dirty) each.1);
+          registers_ranged s.registers 0 register_records (sym shaped.registers_are) (each_left Held registers (sources ++ dirty) each.1);
       sources_ranged = sources_ranged s.sources (each_left Held sources dirty runs);
       dirty_ranged = dirty_ranged 0 s.dirty (each_right Held sources dirty runs) shaped.whole;
       few = few;

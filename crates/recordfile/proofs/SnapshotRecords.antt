@@ -64,10 +64,10 @@ dirty_read pre place (d ∷ ds) h each =
     let l : length d.content ≡ pages_of d * page_size = omega arith in
     let here : part (pre ++ (d.content ++ contents ds)) (place * page_size) (pages_of d * page_size) ≡ d.content =
     rw (drop_at pre (d.content ++ contents ds) (place * page_size) h, take_at d.content (contents ds) (pages_of d * page_size) l) in
-    let a : pre ++ (d.content ++ contents ds) ≡ (pre ++ d.content) ++ contents ds = sym (append_assoc pre d.content (contents ds)) in
+    let a : pre ++ contents (d ∷ ds) ≡ (pre ++ d.content) ++ contents ds = sym (append_assoc pre d.content (contents ds)) in
     let rest : dirty_in ((pre ++ d.content) ++ contents ds) (dirty_records (place + pages_of d) ds) ≡ ds =
     dirty_read (pre ++ d.content) (place + pages_of d) ds (rw length-append (omega arith)) each.1 in
-    rw (here, a, rest)
+    rw here (ap (λ (ts : List DirtyRun). d ∷ ts) (ap (λ (f : List ℕ). dirty_in f (dirty_records (place + pages_of d) ds)) a ∙ rest))
 
 -- ---- source runs
 
@@ -114,10 +114,10 @@ four_more registers next h =
     rw (add-one, add-two, add-three, add-four, drop-cons registers next 0 (omega arith), drop-cons registers (suc next) 0 (omega arith), drop-cons registers (suc (suc next)) 0 (omega arith), drop-cons registers (suc (suc (suc next))) 0 (omega arith))
 
 module _ (registers : List ℕ) where
-  pub length-register_records : (next n : ℕ) → length (register_records_of registers next n) ≡ n
+  pub length_register_records : (next n : ℕ) → length (register_records_of registers next n) ≡ n
   unfolding register_records_of
-  length-register_records next zero = refl
-  length-register_records next (suc n) = ap suc (length-register_records (next + registers_a_record) n)
+  length_register_records next zero = refl
+  length_register_records next (suc n) = ap suc (length_register_records (next + registers_a_record) n)
 
   module _ (t : List Record) where
     -- registers in order: the runs decide
@@ -153,7 +153,7 @@ pub record Shaped (s : Snapshot) : Type 0 where
 
 pub length-records_of : (s : Snapshot) → length (records_of s) ≡ least_records + (length s.sources + length s.dirty)
 length-records_of s =
-    simp (length-append, length-register_records s.registers 0 register_records, length-source_records s.sources, length-dirty_records 0 s.dirty) (omega arith)
+    simp (length-append, length_register_records s.registers 0 register_records, length-source_records s.sources, length-dirty_records 0 s.dirty) (omega arith)
 
 module _ (s : Snapshot) (shaped : Shaped s) where
   -- "its length is 4,096 times their number": the records of a snapshot need the pages of its page file

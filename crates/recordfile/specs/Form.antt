@@ -1,5 +1,5 @@
 -- The form of a whole record file, and of the page file beside it.
-use Rattle.std.specs.Prelude.{cond, List, [], ◌∷◌, ℕ, zero, suc, ◌+◌, ◌*◌, ◌/◌, ◌%◌, ◌^◌, length, eqb, ltb, leb}
+use Rattle.std.specs.Prelude.{cond, List, [], ◌∷◌, ℕ, zero, suc, ◌+◌, ◌*◌, ◌%◌, ◌^◌, length, eqb, ltb, leb}
 use Rattle.bits.specs.Rounding.{page_size}
 use Rattle.recordfile.specs.Words.{record_bytes}
 use Rattle.recordfile.specs.Records.{count_in, records_in}

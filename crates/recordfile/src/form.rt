@@ -11,7 +11,7 @@ use bits::RISCV_PAGESIZE;
 use outcome::Outcome;
 
 // What a record file needs beside it: a page file of so many pages; one of more than 2^64-1; or it is not in the form.
-#[derive(Drop)]
+#[derive(Clone, Copy)]
 pub enum Form {
     Needs(u64),
     Beyond,

@@ -9,6 +9,8 @@
 //
 // What a record says is `record_at` (specs/Records.antt), the form is `judged` (specs/Form.antt), and the snapshot that two files
 // hold is `snapshot_in` (specs/Snapshots.antt). That reading and writing undo each other is proofs/RoundTrip.antt.
+#![tactic(auto)]
+
 pub mod form;
 pub mod reader;
 
@@ -52,7 +54,7 @@ const VERSIONS: u64 = 4294967296;
 const FLAGS: u64 = 256;
 
 // A record; `Bad` is what is none.
-#[derive(Drop)]
+#[derive(Clone, Copy)]
 pub enum Record {
     State {
         version: u32,

@@ -8,7 +8,7 @@ ghost use Rattle.recordfile.specs.Reader.{next_to};
 use super::Record;
 
 // A record file, and the number of the record that is read next.
-#[derive(Drop)]
+#[derive(Clone, Copy)]
 pub struct Reader<'a> {
     pub file: &'a [u8],
     pub at: usize,

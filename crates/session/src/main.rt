@@ -3,10 +3,24 @@
 // "Session A: 4 pages, version 1, maximum 1,000, fresh; item 7 has 10,000 bytes; context store at 100, offset 0, length 10,000, size
 // address 16,376." Its record file is printed by snaplist's own functions; the files are then resumed on a second machine, and
 // everything that a call can see of the two is compared.
+#![tactic(auto)]
+
+ghost use Rattle.std.specs.Prelude.{◌≡◌, ◌++◌, take, codes, OnOk};
+ghost use Rattle.std.specs.Bool.{Decides};
+ghost use Rattle.std.specs.Io.KnownBytes.{Appends};
+ghost use Rattle.listing.specs.Listing.{listing};
+ghost use Rattle.tracking.specs.declared.records.Tracking.TheVariants.{Untracked};
+ghost use Rattle.session.specs.Alike.{TrackedAlike};
+ghost use Rattle.session.specs.Said.{said, compared};
+
 use listing::MOST_TEXT;
-use machine::{Machine, RISCV_GENERAL_REGISTER_NUMBER};
+use machine::Machine;
 use outcome::Outcome;
 use recordfile::{MOST_RECORDS, RECORD_BYTES};
+use std::alloc::Global;
+use std::env::{Env, FillError};
+use std::io;
+use std::io::Write;
 use tracking::records::Tracking;
 
 // The pages of both machines, and their bytes.
@@ -37,46 +51,45 @@ const FILE: usize = 1024;
 const PAGE_BYTES: usize = 4096;
 
 // The bytes that a snapshot wrote of each file.
-#[derive(Drop)]
+#[derive(Clone, Copy)]
 struct Written {
     file: usize,
     pages: usize,
 }
 
 // The front of a slice, as far as it is there.
-fn front(bytes: &[u8], size: usize) -> &[u8] {
+#[tactic(auto, using(std::proofs::lemmas::List::take_min))]
+fn front(bytes: &[u8], size: usize) -> &[u8]
+    ensures { result.now ≡ take size bytes.now }
+{
     let end = words::least(size, bytes.len());
     &bytes[0..end]
 }
 
-fn say(text: &[u8]) {
-    io::write_all(1, text);
-}
-
-fn say_number(x: u64) {
-    io::print_decimal(1, x);
-}
-
 // What a call answered.
-fn say_outcome(outcome: Outcome) {
+fn say_outcome<W: Write>(writer: &mut W, outcome: Outcome) -> io::Result<()> {
     if outcome::is_done(outcome) {
-        say(b"done\n");
-        return;
+        return writeln!(writer, "done");
     }
-    say(b"refused, ");
-    say_number(outcome::number(outcome) as u64);
-    say(b"\n");
+    let number = outcome::number(outcome);
+    writeln!(writer, "refused, {number}")
+}
+
+// Whether what was compared is equal, in words.
+#[tactic(auto, unfolding(crate::specs::Said::said))]
+fn said(equal: bool) -> &'static str
+    ensures { result.now ≡ said equal }
+{
+    if equal { "equal" } else { "NOT EQUAL" }
 }
 
 // What was compared, and whether it is equal.
-fn say_equal(what: &[u8], equal: bool) {
-    say(b"  ");
-    say(what);
-    if equal {
-        say(b": equal\n");
-        return;
-    }
-    say(b": NOT EQUAL\n");
+#[tactic(auto, unfolding(crate::specs::Said::compared))]
+fn say_equal<W: Write>(writer: &mut W, what: &str, equal: bool) -> io::Result<()>
+    ensures { OnOk result (Appends (W.contents writer.old) (W.contents writer.new) (compared what.now equal)) }
+{
+    let verdict = said(equal);
+    writeln!(writer, "  {what}: {verdict}")
 }
 
 // Readings: bytes that a page of zeros or a shifted page would not match.
@@ -94,23 +107,9 @@ fn readings() -> [u8; ITEM_BYTES] {
 
 // ---- compared
 
-fn same_bytes(one: &[u8], two: &[u8]) -> bool {
-    if one.len() != two.len() {
-        return false;
-    }
-    let mut i: usize = 0;
-    while i < one.len() {
-        if i < two.len() {
-            if one[i] != two[i] {
-                return false;
-            }
-        }
-        i += 1;
-    }
-    true
-}
-
-fn same_entry(one: Tracking, two: Tracking) -> bool {
+fn same_entry(one: Tracking, two: Tracking) -> bool
+    ensures { Decides result (one ≡ two) }
+{
     let Tracking::Tracked(id, offset, flag) = one else {
         return untracked(two);
     };
@@ -126,14 +125,18 @@ fn same_entry(one: Tracking, two: Tracking) -> bool {
     flag == recorded
 }
 
-fn untracked(entry: Tracking) -> bool {
+fn untracked(entry: Tracking) -> bool
+    ensures { Decides result (entry ≡ Untracked) }
+{
     let Tracking::Tracked(_, _, _) = entry else {
         return true;
     };
     false
 }
 
-fn same_tracking(flags: &[u8], records: &[u64], flags2: &[u8], records2: &[u64]) -> bool {
+fn same_tracking(flags: &[u8], records: &[u64], flags2: &[u8], records2: &[u64]) -> bool
+    ensures { Decides result (TrackedAlike 4 flags.now records.now flags2.now records2.now) }
+{
     let mut page: u64 = 0;
     while page < PAGES as u64 {
         let one = tracking::records::entry_at(flags, records, page);
@@ -146,18 +149,16 @@ fn same_tracking(flags: &[u8], records: &[u64], flags2: &[u8], records2: &[u64])
     true
 }
 
-fn same_registers(one: Machine, two: Machine) -> bool {
-    let mut i: usize = 0;
-    while i < RISCV_GENERAL_REGISTER_NUMBER {
-        if one.registers[i] != two.registers[i] {
-            return false;
-        }
-        i += 1;
-    }
-    true
+fn same_registers(one: Machine, two: Machine) -> bool
+    ensures { Decides result (one.registers ≡ two.registers) }
+{
+    one.registers == two.registers
 }
 
-fn same_numbers(one: Machine, two: Machine) -> bool {
+fn same_numbers(one: Machine, two: Machine) -> bool
+    ensures { Decides result ((one.pc ≡ two.pc) × (one.next_pc ≡ two.next_pc) × (one.version ≡ two.version)
+        × (one.cycles ≡ two.cycles) × (one.max_cycles ≡ two.max_cycles) × (one.memory.reservation ≡ two.memory.reservation)) }
+{
     if one.pc != two.pc {
         return false;
     }
@@ -179,21 +180,23 @@ fn same_numbers(one: Machine, two: Machine) -> bool {
 // ---- told
 
 // A machine is fresh.
-fn start(
+fn start<W: Write>(
+    writer: &mut W,
     slots: &mut [u16],
     flags: &mut [u8],
     area: &mut [u8],
     records: &mut [u64],
     maximum: u64,
-) -> Machine {
+) -> io::Result<Machine> {
     let fresh = machine::fresh(slots, flags, area, records, BYTES as u64, VERSION, maximum);
     let outcome = fresh.outcome;
-    say_outcome(outcome);
-    fresh.machine
+    say_outcome(writer, outcome)?;
+    Ok(fresh.machine)
 }
 
 // It stores the item.
-fn load(
+fn load<W: Write>(
+    writer: &mut W,
     slots: &mut [u16],
     flags: &mut [u8],
     area: &mut [u8],
@@ -201,7 +204,7 @@ fn load(
     directory: &[u64],
     sources: &[u8],
     one: Machine,
-) -> Machine {
+) -> io::Result<Machine> {
     let memory = one.memory;
     let stored = tracking::context::store_bytes(
         slots,
@@ -218,28 +221,36 @@ fn load(
         SIZE_ADDRESS,
     );
     let outcome = stored.outcome;
-    say_outcome(outcome);
+    say_outcome(writer, outcome)?;
     let next = stored.memory;
-    one.with_memory(next)
+    Ok(one.with_memory(next))
 }
 
 // Both: the first machine, until it is stopped.
-fn first(
+fn first<W: Write>(
+    writer: &mut W,
     slots: &mut [u16],
     flags: &mut [u8],
     area: &mut [u8],
     records: &mut [u64],
     directory: &[u64],
     sources: &[u8],
-) -> Machine {
-    say(b"A machine of 4 pages, version 1, 1000 cycles at most, is fresh: ");
-    let one = start(slots, flags, area, records, MAXIMUM);
-    say(b"It stores the 10000 bytes of item 7 at 100, and how many they are at 16376: ");
-    load(slots, flags, area, records, directory, sources, one)
+) -> io::Result<Machine> {
+    write!(
+        writer,
+        "A machine of 4 pages, version 1, 1000 cycles at most, is fresh: "
+    )?;
+    let one = start(writer, slots, flags, area, records, MAXIMUM)?;
+    write!(
+        writer,
+        "It stores the 10000 bytes of item 7 at 100, and how many they are at 16376: "
+    )?;
+    load(writer, slots, flags, area, records, directory, sources, one)
 }
 
 // It is stopped: what was written of the two files.
-fn stop(
+fn stop<W: Write>(
+    writer: &mut W,
     slots: &[u16],
     flags: &[u8],
     area: &[u8],
@@ -247,28 +258,33 @@ fn stop(
     file: &mut [u8],
     pages: &mut [u8],
     one: Machine,
-) -> Written {
-    say(b"It is stopped, and a snapshot taken: ");
+) -> io::Result<Written> {
+    write!(writer, "It is stopped, and a snapshot taken: ")?;
     let made = snapshot::make::make_snapshot(slots, flags, area, records, file, pages, one);
     let outcome = made.outcome;
-    say_outcome(outcome);
-    Written {
+    say_outcome(writer, outcome)?;
+    Ok(Written {
         file: words::least(made.records as usize, MOST_RECORDS) * RECORD_BYTES,
         pages: words::least(made.pages as usize, PAGES) * PAGE_BYTES,
-    }
+    })
 }
 
 // The text of a record file.
-fn list(file: &[u8]) {
-    say(b"The record file, as snaplist lists it:\n");
-    let mut text = [0u8; MOST_TEXT];
+fn list<W: Write>(alloc: Global, writer: &mut W, file: &[u8]) -> io::Result<()>
+    ensures { OnOk result (Appends (W.contents writer.old) (W.contents writer.new)
+        (codes "The record file, as snaplist lists it:\n" ++ listing file.now)) }
+{
+    writeln!(writer, "The record file, as snaplist lists it:")?;
+    let mut text = vec![in alloc; 0u8; MOST_TEXT]?;
     let listed = listing::list(file, &mut text);
     let size = listed.size;
-    say(front(&text, size));
+    writer.write_all(front(&text, size))?;
+    Ok(())
 }
 
 // A machine is resumed.
-fn go_on(
+fn go_on<W: Write>(
+    writer: &mut W,
     slots: &mut [u16],
     flags: &mut [u8],
     area: &mut [u8],
@@ -278,17 +294,18 @@ fn go_on(
     file: &[u8],
     pages: &[u8],
     two: Machine,
-) -> Machine {
+) -> io::Result<Machine> {
     let resumed = snapshot::resume::resume(
         slots, flags, area, records, directory, sources, file, pages, two,
     );
     let outcome = resumed.outcome;
-    say_outcome(outcome);
-    resumed.machine
+    say_outcome(writer, outcome)?;
+    Ok(resumed.machine)
 }
 
 // A second machine is fresh, and resumed.
-fn second(
+fn second<W: Write>(
+    writer: &mut W,
     slots: &mut [u16],
     flags: &mut [u8],
     area: &mut [u8],
@@ -297,12 +314,12 @@ fn second(
     sources: &[u8],
     file: &[u8],
     pages: &[u8],
-) -> Machine {
-    say(b"A second machine, elsewhere, is fresh: ");
-    let two = start(slots, flags, area, records, 0);
-    say(b"It is resumed from the two files and the sources: ");
+) -> io::Result<Machine> {
+    write!(writer, "A second machine, elsewhere, is fresh: ")?;
+    let two = start(writer, slots, flags, area, records, 0)?;
+    write!(writer, "It is resumed from the two files and the sources: ")?;
     go_on(
-        slots, flags, area, records, directory, sources, file, pages, two,
+        writer, slots, flags, area, records, directory, sources, file, pages, two,
     )
 }
 
@@ -313,7 +330,8 @@ fn read_all(slots: &[u16], flags: &[u8], area: &[u8], out: &mut [u8], one: Machi
 }
 
 // Everything that a call can see of two machines.
-fn compare(
+fn compare<W: Write>(
+    writer: &mut W,
     slots: &[u16],
     flags: &[u8],
     area: &[u8],
@@ -324,27 +342,30 @@ fn compare(
     records2: &[u64],
     one: Machine,
     two: Machine,
-) {
+) -> io::Result<()> {
     let mut bytes = [0u8; BYTES];
     let mut bytes2 = [255u8; BYTES];
     read_all(slots, flags, area, &mut bytes, one);
     read_all(slots2, flags2, area2, &mut bytes2, two);
-    say(b"The two machines:\n");
-    say_equal(b"bytes", same_bytes(&bytes, &bytes2));
-    say_equal(b"flags", same_bytes(flags, flags2));
+    writeln!(writer, "The two machines:")?;
+    say_equal(writer, "bytes", bytes == bytes2)?;
+    say_equal(writer, "flags", flags == flags2)?;
     say_equal(
-        b"tracked pages",
+        writer,
+        "tracked pages",
         same_tracking(flags, records, flags2, records2),
-    );
-    say_equal(b"registers", same_registers(one, two));
+    )?;
+    say_equal(writer, "registers", same_registers(one, two))?;
     say_equal(
-        b"pc, version, cycles, maximum, reservation",
+        writer,
+        "pc, version, cycles, maximum, reservation",
         same_numbers(one, two),
-    );
+    )
 }
 
 // The second machine, and the two compared.
-fn elsewhere(
+fn elsewhere<W: Write>(
+    writer: &mut W,
     slots: &[u16],
     flags: &[u8],
     area: &[u8],
@@ -354,12 +375,13 @@ fn elsewhere(
     file: &[u8],
     pages: &[u8],
     one: Machine,
-) {
+) -> io::Result<()> {
     let mut slots2 = [0u16; PAGES];
     let mut flags2 = [0u8; PAGES];
     let mut area2 = [0u8; BYTES];
     let mut records2 = [0u64; RECORDS];
     let two = second(
+        writer,
         &mut slots2,
         &mut flags2,
         &mut area2,
@@ -368,14 +390,16 @@ fn elsewhere(
         sources,
         file,
         pages,
-    );
+    )?;
     compare(
-        slots, flags, area, records, &slots2, &flags2, &area2, &records2, one, two,
-    );
+        writer, slots, flags, area, records, &slots2, &flags2, &area2, &records2, one, two,
+    )
 }
 
 // The first machine is stopped, and goes on elsewhere.
-fn hand_over(
+fn hand_over<W: Write>(
+    alloc: Global,
+    writer: &mut W,
     slots: &[u16],
     flags: &[u8],
     area: &[u8],
@@ -383,14 +407,17 @@ fn hand_over(
     directory: &[u64],
     sources: &[u8],
     one: Machine,
-) {
+) -> io::Result<()> {
     let mut file = [0u8; FILE];
     let mut pages = [0u8; BYTES];
-    let written = stop(slots, flags, area, records, &mut file, &mut pages, one);
+    let written = stop(
+        writer, slots, flags, area, records, &mut file, &mut pages, one,
+    )?;
     let record_file = front(&file, written.file);
     let page_file = front(&pages, written.pages);
-    list(record_file);
+    list(alloc, writer, record_file)?;
     elsewhere(
+        writer,
         slots,
         flags,
         area,
@@ -400,18 +427,17 @@ fn hand_over(
         record_file,
         page_file,
         one,
-    );
+    )
 }
 
-fn usage() {
-    io::write_all(
-        2,
+fn usage<W: Write>(writer: &mut W) -> io::Result<()> {
+    writer.write_all(
         b"usage: session\n\
           Tells document 01's Session A: a machine that is stopped and goes on elsewhere. It takes no argument.\n",
-    );
+    )
 }
 
-fn tell() {
+fn tell<W: Write>(alloc: Global, writer: &mut W) -> io::Result<()> {
     let sources = readings();
     let directory = [ITEM, 0, ITEM_BYTES as u64];
     let mut slots = [0u16; PAGES];
@@ -419,20 +445,23 @@ fn tell() {
     let mut area = [0u8; BYTES];
     let mut records = [0u64; RECORDS];
     let one = first(
+        writer,
         &mut slots,
         &mut flags,
         &mut area,
         &mut records,
         &directory,
         &sources,
-    );
-    hand_over(&slots, &flags, &area, &records, &directory, &sources, one);
+    )?;
+    hand_over(
+        alloc, writer, &slots, &flags, &area, &records, &directory, &sources, one,
+    )?;
+    writer.flush()
 }
 
-fn main() {
-    if 1 < os::arg_count() {
-        usage();
-        return;
-    }
-    tell();
+fn main(rt: HostRuntime) -> io::Result<()> {
+    let Err(FillError::NotPresent) = rt.arg(1, &mut []) else {
+        return usage(&mut rt.stderr());
+    };
+    tell(rt.alloc(), &mut rt.stdout())
 }

@@ -2,13 +2,18 @@
 //
 // Document 01, "Snapshot and resume", the paragraph on `snaplist`. The text is `listing`'s; the program reads and writes. It
 // takes no argument: given one it says how it is used, and does nothing else.
-ghost use Rattle.std.specs.Prelude.{◌≡◌, ◌≤◌, length, take};
-ghost use Rattle.io.specs.Counts.{IsPrefixLen};
+#![tactic(auto)]
+
+ghost use Rattle.std.specs.Prelude.{◌≡◌, ◌≤◌, length, take, IfOk, IfSome, OnOk};
+ghost use Rattle.std.specs.Io.KnownBytes.{Appends};
 ghost use Rattle.listing.specs.Listing.{listing, most_text};
 
-use libc::{STDERR_FILENO, STDIN_FILENO, STDOUT_FILENO};
 use listing::MOST_TEXT;
 use recordfile::{MOST_RECORDS, RECORD_BYTES};
+use std::alloc::{AllocError, Global};
+use std::env::{Env, FillError};
+use std::io;
+use std::io::{Read, Write};
 
 // A byte more than the largest file: a longer one is read up to there, and that is not whole records.
 const MOST_READ: usize = MOST_RECORDS * RECORD_BYTES + 1;
@@ -17,31 +22,43 @@ const MOST_READ: usize = MOST_RECORDS * RECORD_BYTES + 1;
 fn put_text(file: &[u8], text: &mut [u8]) -> usize
     requires { most_text ≤ length text.old }
     ensures text_after { take result text.new ≡ listing file.now }
-    ensures prefix_len { IsPrefixLen result text.new }
+    ensures size_in_bounds { result ≤ length text.new }
 {
     listing::list(file, text).size
 }
 
-fn usage() {
-    io::write_all(
-        STDERR_FILENO,
+// A record file's text.
+fn text_of(alloc: Global, file: &[u8]) -> Result<Vec<u8>, AllocError>
+    ensures { IfOk result (λ text. text.items ≡ listing file.now) }
+{
+    let mut text = vec![in alloc; 0u8; MOST_TEXT]?;
+    let size = put_text(file, &mut text);
+    text.truncate(size);
+    Ok(text)
+}
+
+fn usage<W: Write>(writer: &mut W) -> io::Result<()> {
+    writer.write_all(
         b"usage: snaplist < RECORDS\n\
           Lists the record file of a snapshot: M, S and D lines, or only E 11 where it is not in the form.\n",
-    );
+    )
 }
 
-fn list_input() {
-    let mut file = [0u8; MOST_READ];
-    let mut text = [0u8; MOST_TEXT];
-    let count = io::read_full(STDIN_FILENO, &mut file);
-    let size = put_text(&file[..count], &mut text);
-    io::write_all(STDOUT_FILENO, &text[..size]);
+// Reads a record file to its end, and then writes its text. A file that can't be read to its end gives an error and no text.
+#[tactic(auto, using(listing::proofs::Front::listing_front))]
+fn list_input<R: Read + Drop, W: Write>(alloc: Global, reader: R, writer: &mut W) -> io::Result<()>
+    ensures { OnOk result (IfSome (R.remaining reader) (λ input.
+        Appends (W.contents writer.old) (W.contents writer.new) (listing input))) }
+{
+    let file = intake::read_up_to(alloc, reader, MOST_READ)?;
+    let text = text_of(alloc, &file)?;
+    writer.write_all(&text)?;
+    writer.flush()
 }
 
-fn main() {
-    if 1 < os::arg_count() {
-        usage();
-        return;
-    }
-    list_input();
+fn main(rt: HostRuntime) -> io::Result<()> {
+    let Err(FillError::NotPresent) = rt.arg(1, &mut []) else {
+        return usage(&mut rt.stderr());
+    };
+    list_input(rt.alloc(), rt.stdin(), &mut rt.stdout())
 }

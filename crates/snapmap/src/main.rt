@@ -2,15 +2,21 @@
 //
 // The picture is `listing`'s; the program reads and writes. Its one argument, which may be left out, is the machine's pages.
 // Given others it says how it is used, and does nothing else.
-ghost use Rattle.std.specs.Prelude.{◌≡◌, ◌≤◌, length, take};
-ghost use Rattle.io.specs.Counts.{IsPrefixLen};
+#![tactic(auto)]
+
+ghost use Rattle.std.specs.Prelude.{◌≡◌, ◌+◌, ◌≤◌, ℕ, List, [], ◌∷◌, ◌++◌, length, take, IfOk, IfSome, OnOk};
+ghost use Rattle.std.specs.Io.KnownBytes.{Appends};
 ghost use Rattle.listing.specs.Map.{map, most_map};
 ghost use Rattle.listing.specs.Pages.{most_pages};
+ghost use Rattle.snapmap.specs.Numerals.{most_word, Says, AsksFor, AreFew};
 
-use libc::{STDERR_FILENO, STDIN_FILENO, STDOUT_FILENO};
 use listing::MOST_PAGES;
 use listing::map::MOST_MAP;
 use recordfile::{MOST_RECORDS, RECORD_BYTES};
+use std::alloc::{AllocError, Global};
+use std::env::{Env, FillError};
+use std::io;
+use std::io::{Read, Write};
 
 // A byte more than the largest file: a longer one is read up to there, and that is not whole records.
 const MOST_READ: usize = MOST_RECORDS * RECORD_BYTES + 1;
@@ -19,14 +25,16 @@ const MOST_READ: usize = MOST_RECORDS * RECORD_BYTES + 1;
 const MOST_WORD: usize = 4;
 
 // The machine's pages as they are asked for, or that they are not.
-#[derive(Drop)]
+#[derive(Clone, Copy)]
 enum Asked {
     Pages(u64),
     Unclear,
 }
 
 // A number with a digit behind it, up to MOST_PAGES.
-fn with_digit(asked: Asked, byte: u8) -> Asked {
+fn with_digit(asked: Asked, byte: u8) -> Asked
+    ensures { (word : List ℕ) → Says word asked → Says (word ++ byte ∷ []) result }
+{
     let Asked::Pages(n) = asked else {
         return Asked::Unclear;
     };
@@ -47,7 +55,9 @@ fn with_digit(asked: Asked, byte: u8) -> Asked {
 }
 
 // The same with byte i of a word, where it has one.
-fn with_byte(asked: Asked, word: &[u8], i: usize) -> Asked {
+fn with_byte(asked: Asked, word: &[u8], i: usize) -> Asked
+    ensures { Says (take i word.now) asked → Says (take (i + 1) word.now) result }
+{
     if i < word.len() {
         return with_digit(asked, word[i]);
     }
@@ -55,7 +65,9 @@ fn with_byte(asked: Asked, word: &[u8], i: usize) -> Asked {
 }
 
 // A word of at most MOST_WORD bytes as a decimal number.
-fn pages_in(word: &[u8]) -> Asked {
+fn pages_in(word: &[u8]) -> Asked
+    ensures { length word.now ≤ most_word → AsksFor word.now result }
+{
     if word.len() == 0 {
         return Asked::Unclear;
     }
@@ -65,28 +77,28 @@ fn pages_in(word: &[u8]) -> Asked {
     with_byte(three, word, 3)
 }
 
-// What the arguments ask for. An argument that is too long comes as none.
-fn from_arguments() -> Asked {
-    let count = os::arg_count();
-    if count < 2 {
-        return Asked::Pages(MOST_PAGES);
-    }
-    if 2 < count {
-        return Asked::Unclear;
-    }
+// What the arguments ask for: at most one, of at most MOST_WORD bytes.
+fn from_arguments<E: Env>(arguments: &E) -> Asked
+    ensures { AreFew result }
+{
     let mut word = [0u8; MOST_WORD];
-    let size = os::arg(1, &mut word);
-    pages_in(&word[..size])
+    let Err(FillError::NotPresent) = arguments.arg(2, &mut word) else {
+        return Asked::Unclear;
+    };
+    match arguments.arg(1, &mut word) {
+        Ok(size) => pages_in(&word[..size]),
+        Err(FillError::NotPresent) => Asked::Pages(MOST_PAGES),
+        Err(FillError::TooLong) => Asked::Unclear,
+    }
 }
 
-fn usage() {
-    io::write_all(
-        STDERR_FILENO,
+fn usage<W: Write>(writer: &mut W) -> io::Result<()> {
+    writer.write_all(
         b"usage: snapmap [PAGES] < RECORDS > MAP.svg\n\
           Draws the record file of a snapshot as a map of the machine's pages: dirty, from a source, left out.\n\
           PAGES: how many pages the machine has, 0 to 1024; 1024 where it is left out.\n\
           A record file that is not in the form gives only E 11.\n",
-    );
+    )
 }
 
 // A record file's map, at the front of `out`; answers its size.
@@ -94,27 +106,46 @@ fn put_map(file: &[u8], out: &mut [u8], pages: u64) -> usize
     requires pages_le_most_pages { pages ≤ most_pages }
     requires most_map_in_bounds { most_map ≤ length out.old }
     ensures out_after { take result out.new ≡ map pages file.now }
-    ensures prefix_len { IsPrefixLen result out.new }
+    ensures size_in_bounds { result ≤ length out.new }
 {
     listing::map::draw(file, out, pages).size
 }
 
-fn draw_input(pages: u64) {
-    if MOST_PAGES < pages {
-        return;
-    }
-    let mut file = [0u8; MOST_READ];
-    let mut out = [0u8; MOST_MAP];
-    let count = io::read_full(STDIN_FILENO, &mut file);
-    let size = put_map(&file[..count], &mut out, pages);
-    io::write_all(STDOUT_FILENO, &out[..size]);
+// A record file's map.
+fn map_of(alloc: Global, file: &[u8], pages: u64) -> Result<Vec<u8>, AllocError>
+    requires { pages ≤ most_pages }
+    ensures { IfOk result (λ out. out.items ≡ map pages file.now) }
+{
+    let mut out = vec![in alloc; 0u8; MOST_MAP]?;
+    let size = put_map(file, &mut out, pages);
+    out.truncate(size);
+    Ok(out)
 }
 
-fn main() {
-    let asked = from_arguments();
+// Reads a record file to its end, and then writes its map. A file that can't be read to its end gives an error and no map.
+#[tactic(auto, using(listing::proofs::Front::map_front))]
+fn draw_input<R: Read + Drop, W: Write>(
+    alloc: Global,
+    reader: R,
+    writer: &mut W,
+    pages: u64,
+) -> io::Result<()>
+    ensures { pages ≤ most_pages → OnOk result (IfSome (R.remaining reader) (λ input.
+        Appends (W.contents writer.old) (W.contents writer.new) (map pages input))) }
+{
+    if MOST_PAGES < pages {
+        return Ok(());
+    }
+    let file = intake::read_up_to(alloc, reader, MOST_READ)?;
+    let out = map_of(alloc, &file, pages)?;
+    writer.write_all(&out)?;
+    writer.flush()
+}
+
+fn main(rt: HostRuntime) -> io::Result<()> {
+    let asked = from_arguments(&rt);
     let Asked::Pages(pages) = asked else {
-        usage();
-        return;
+        return usage(&mut rt.stderr());
     };
-    draw_input(pages);
+    draw_input(rt.alloc(), rt.stdin(), &mut rt.stdout(), pages)
 }

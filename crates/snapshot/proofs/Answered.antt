@@ -63,16 +63,16 @@ module _ (slots flags area records : List ℕ) (m : Machine) where
 -- ---- runs that were met and counted
 
 -- where none refuses
-tally-all : (slots : List ℕ) (used r n : ℕ) (rs : List Run) → (tally slots used r n rs).number ≡ 0
+tally_all : (slots : List ℕ) (used r n : ℕ) (rs : List Run) → (tally slots used r n rs).number ≡ 0
     → tally slots used r n rs ≡ counts 0 (r + length rs) (n + total rs)
 unfolding tally total
-tally-all slots used r n [] e = rw (add-zero r, add-zero n)
-tally-all slots used r n (x ∷ rs) e =
+tally_all slots used r n [] e = rw (add-zero r, add-zero n)
+tally_all slots used r n (x ∷ rs) e =
     let k : ℕ = met_run slots used x.pages x.page in
     let f : (k ≡ 0) × ((tally slots used (r + 1) (n + x.pages) rs).number ≡ 0) = met-first (eqb k 0) _ k refl e in
     let a : r + 1 + length rs ≡ r + suc (length rs) = omega arith in
     let b : n + x.pages + total rs ≡ n + (x.pages + total rs) = omega arith in
-    rw (eq-eqb k 0 f.0, ← a, ← b) (tally-all slots used (r + 1) (n + x.pages) rs f.1)
+    rw (eq-eqb k 0 f.0, ← a, ← b) (tally_all slots used (r + 1) (n + x.pages) rs f.1)
 
 -- at most as many as there are
 runs-few : (slots : List ℕ) (used r n : ℕ) (rs : List Run) → (tally slots used r n rs).runs ≤ r + length rs
@@ -104,7 +104,7 @@ module _ (slots : List ℕ) (used : ℕ) (rs : List Run) (k runs dirty : ℕ) (e
     all-met = sym number-told ∙ eqb-true _ 0 (sym i ∙ y)
 
     counted-all : counts k runs dirty ≡ counts 0 (0 + length rs) (0 + total rs)
-    counted-all = e ∙ tally-all slots used 0 0 rs all-met
+    counted-all = e ∙ tally_all slots used 0 0 rs all-met
 
     runs-counted : runs ≡ length rs
     runs-counted = let q : runs ≡ 0 + length rs = ap (λ (x : Count). x.runs) counted-all in omega arith
@@ -219,10 +219,10 @@ module _ (slots flags area records file pages : List ℕ) (m : Machine) (b : Boo
               ∙ ap (λ (x : Made). laid file pages (x, lent)) (out-short _ _ _ (held ∙ n))
               ∙ outputs_laid
 
-          pub snapshot-made : h ≡ true → (f p : List ℕ) → f ≡ written file 0 (file_of (snapshot_now slots flags area records m))
+          pub snapshot_made : h ≡ true → (f p : List ℕ) → f ≡ written file 0 (file_of (snapshot_now slots flags area records m))
               → p ≡ written pages 0 (page_file_of (snapshot_now slots flags area records m))
               → leaves 0 (least_records + sources + runs) dirty f p lent ≡ promised
-          snapshot-made n f p ef ep =
+          snapshot_made n f p ef ep =
               let q : dirty ≡ length (page_file_of (taken-now slots flags area records m)) / page_size =
               rw (length-pages slots flags area records m, ← pages-are) (omega arith) in
               (λ i. leaves 0 (sym records_are i) (q i) (ef i) (ep i) lent)

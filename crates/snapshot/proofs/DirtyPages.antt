@@ -86,22 +86,22 @@ unfoldable From : ℕ → List Run → Type 0
 From p [] = Unit {0}
 From p (r ∷ rs) = p ≤ r.page
 
-from-later : (p q : ℕ) (l : List Run) → p ≤ q → From q l → From p l
+from_later : (p q : ℕ) (l : List Run) → p ≤ q → From q l → From p l
 unfolding From
-from-later p q [] h l = tt
-from-later p q (r ∷ rs) h l = omega arith
+from_later p q [] h l = tt
+from_later p q (r ∷ rs) h l = omega arith
 
 join_from : (p f : ℕ) (l : List Run) → From p (join_dirty p f l)
 unfolding join_dirty From
 join_from p f [] = omega arith
 join_from p f (r ∷ rs) = cases (From p) (neighbours p f r) _ _ (λ e. omega arith) (λ e. omega arith)
 
-runs-from : (fs : List ℕ) (p : ℕ) → From p (dirty_runs p fs)
+runs_from : (fs : List ℕ) (p : ℕ) → From p (dirty_runs p fs)
 unfolding dirty_runs From
-runs-from [] p = tt
-runs-from (f ∷ fs) p =
+runs_from [] p = tt
+runs_from (f ∷ fs) p =
     cases (From p) (eqb (bit_and f dirty) 0) _ _
-    (λ e. from-later p (p + 1) (dirty_runs (p + 1) fs) (omega arith) (runs-from fs (p + 1)))
+    (λ e. from_later p (p + 1) (dirty_runs (p + 1) fs) (omega arith) (runs_from fs (p + 1)))
     (λ e. join_from p f (dirty_runs (p + 1) fs))
 
 -- runs from page p on, where a run that starts at page p has flag f
@@ -121,20 +121,20 @@ from_front p f (r ∷ rs) h = λ e. absurd (omega arith)
 
 dirty-later : (flags : List ℕ) (p : ℕ) → From p (dirty_from flags p)
 unfolding dirty_from
-dirty-later flags p = runs-from (along (flag_at flags) (length flags - p) p) p
+dirty-later flags p = runs_from (along (flag_at flags) (length flags - p) p) p
 
-dirty-front : (flags : List ℕ) (p : ℕ) → p < length flags → Front p (flag_at flags p) (dirty_from flags p)
-dirty-front flags p h = go (ℕ_discrete (bit_and (flag_at flags p) dirty) 0)
+dirty_front : (flags : List ℕ) (p : ℕ) → p < length flags → Front p (flag_at flags p) (dirty_from flags p)
+dirty_front flags p h = go (ℕ_discrete (bit_and (flag_at flags p) dirty) 0)
   where
     go : Dec (bit_and (flag_at flags p) dirty ≡ 0) → Front p (flag_at flags p) (dirty_from flags p)
     go (yes z) = rw (dirty-clean flags p h z) (from_front p (flag_at flags p) (dirty_from flags (p + 1)) (dirty-later flags (p + 1)))
     go (no d) = rw (dirty_joins flags p h d) (join_front p (flag_at flags p) (dirty_from flags (p + 1)))
 
 -- a run is not joined to a page of another flag
-front-apart : (p f n g : ℕ) (l : List Run) → g ≢ f → Front (p + n) g l → Apart meets both (a_run p f n) l
+front_apart : (p f n g : ℕ) (l : List Run) → g ≢ f → Front (p + n) g l → Apart meets both (a_run p f n) l
 unfolding Front Apart
-front-apart p f n g [] d h = tt
-front-apart p f n g (r ∷ rs) d h =
+front_apart p f n g [] d h = tt
+front_apart p f n g (r ∷ rs) d h =
     cases (λ b. b ≡ false) (eqb r.page (p + n)) _ _
     (λ e. ne_eqb _ _ (λ q. d (sym (h (eqb-true _ _ e)) ∙ q)))
     (λ e. refl)
@@ -179,7 +179,7 @@ module _ {flags : List ℕ} {page flag next : ℕ} (g : Stretch flags page flag 
       let above = g.above in
       let z : page + (next - page) ≡ next = omega arith in
       parted
-      (front-apart page flag (next - page) (flag_at flags next) (dirty_from flags next) d (rw z (dirty-front flags next h)))
+      (front_apart page flag (next - page) (flag_at flags next) (dirty_from flags next) d (rw z (dirty_front flags next h)))
 
   pub stretch-on : next < length flags → flag_at flags next ≡ flag → bit_and (flag_at flags page) dirty ≢ 0
       → Stretch flags page flag (next + 1)

@@ -21,7 +21,7 @@ use Rattle.recordfile.specs.Records.{words_of, encoded}
 use Rattle.recordfile.specs.Form.{least_records, register_records}
 use Rattle.recordfile.specs.Snapshots.{SourceRun, source_run, source_records, dirty_records, image_of, file_of, contents, page_file_of}
 use Rattle.recordfile.proofs.FileRecords.{length_image_of}
-use Rattle.recordfile.proofs.SnapshotRecords.{length-register_records, length-source_records, length-dirty_records}
+use Rattle.recordfile.proofs.SnapshotRecords.{length_register_records, length-source_records, length-dirty_records}
 use Rattle.snapshot.specs.Runs.{Run, a_run, dirty_from, sources_from, total}
 use Rattle.snapshot.specs.Answers.{Inside, dirty_spread, source_spread, DirtyWithin, SourceWithin, Count, counts, met_run, tally, read_out, dirty_out, head_records, run_records, snapshot_now}
 use Rattle.snapshot.specs.declared.make.DirtySpan.{DirtySpan}
@@ -228,10 +228,10 @@ image-append [] b = refl
 image-append (r ∷ a) b = rw (image-append a b) (sym (append_assoc (image (words_of r)) (image_of a) (image_of b)))
 
 -- records, and others after them
-records-next : (file mid now : List ℕ) (a b : List Record) (from n : ℕ) → n ≡ from + length a
+records_next : (file mid now : List ℕ) (a b : List Record) (from n : ℕ) → n ≡ from + length a
     → mid ≡ written file (from * record_bytes) (image_of a) → now ≡ written mid (n * record_bytes) (image_of b)
     → now ≡ written file (from * record_bytes) (image_of (a ++ b))
-records-next file mid now a b from n e q w =
+records_next file mid now a b from n e q w =
     let l : length (image_of a) ≡ record_bytes * length a = length_image_of a in
     let z : n * record_bytes ≡ from * record_bytes + length (image_of a) = omega arith in
     w ∙ rw (q, z, image-append a b) (written_next file (image_of a) (image_of b) (from * record_bytes))
@@ -243,7 +243,7 @@ module _ (slots flags area records file mid now : List ℕ) where
       → now ≡ written mid ((least_records + sources) * record_bytes) (image_of (dirty_records 0 (dirty_out slots flags area)))
       → now ≡ written file (least_records * record_bytes) (image_of (run_records slots flags area records))
   runs-filed sources e q w =
-      records-next file mid now _ _ least_records (least_records + sources)
+      records_next file mid now _ _ least_records (least_records + sources)
       (rw (length-source_records (sources_from flags records 0)) (omega arith)) q w
 
   -- the machine's numbers, then the runs
@@ -252,8 +252,8 @@ module _ (slots flags area records file mid now : List ℕ) where
       → now ≡ written file 0 (file_of (snapshot_now slots flags area records m))
   unfolding file_of
   file-written m q w =
-      records-next file mid now (head_records m) (run_records slots flags area records) 0 least_records
-      (rw (length-register_records m.registers 0 register_records)) q w
+      records_next file mid now (head_records m) (run_records slots flags area records) 0 least_records
+      (rw (length_register_records m.registers 0 register_records)) q w
 
 pub pages-written : (slots flags area records pages now : List ℕ) (m : Machine)
     → now ≡ written pages 0 (contents (dirty_out slots flags area))

@@ -178,10 +178,10 @@ tracked_pages p [] = []
 tracked_pages p (Untracked ∷ ts) = tracked_pages (p + 1) ts
 tracked_pages p (Tracked id offset flag ∷ ts) = page_run p flag id offset ∷ tracked_pages (p + 1) ts
 
-dirty-right : (fs : List ℕ) (p : ℕ) → right_runs meets both (dirty_pages p fs) ≡ dirty_runs p fs
+dirty_right : (fs : List ℕ) (p : ℕ) → right_runs meets both (dirty_pages p fs) ≡ dirty_runs p fs
 unfolding right_runs dirty_pages dirty_runs
-dirty-right [] p = refl
-dirty-right (f ∷ fs) p = turn (eqb (bit_and f dirty) 0) (dirty-right fs (p + 1))
+dirty_right [] p = refl
+dirty_right (f ∷ fs) p = turn (eqb (bit_and f dirty) 0) (dirty_right fs (p + 1))
   where
     turn : (b : Bool) → right_runs meets both (dirty_pages (p + 1) fs) ≡ dirty_runs (p + 1) fs
         → right_runs meets both (cond b (dirty_pages (p + 1) fs) (a_run p f 1 ∷ dirty_pages (p + 1) fs))
@@ -189,17 +189,17 @@ dirty-right (f ∷ fs) p = turn (eqb (bit_and f dirty) 0) (dirty-right fs (p + 1
     turn true i = i
     turn false i = ap (joined meets both (a_run p f 1)) i ∙ sym (join_is p f (dirty_runs (p + 1) fs))
 
-source-right : (ts : List Tracking) (p : ℕ) → right_runs continues source.both (tracked_pages p ts) ≡ source_runs p ts
+source_right : (ts : List Tracking) (p : ℕ) → right_runs continues source.both (tracked_pages p ts) ≡ source_runs p ts
 unfolding right_runs tracked_pages source_runs
-source-right [] p = refl
-source-right (Untracked ∷ ts) p = source-right ts (p + 1)
-source-right (Tracked id offset flag ∷ ts) p =
-    ap (joined continues source.both (page_run p flag id offset)) (source-right ts (p + 1))
+source_right [] p = refl
+source_right (Untracked ∷ ts) p = source_right ts (p + 1)
+source_right (Tracked id offset flag ∷ ts) p =
+    ap (joined continues source.both (page_run p flag id offset)) (source_right ts (p + 1))
     ∙ sym (source.join_is (page_run p flag id offset) (source_runs (p + 1) ts))
 
 -- the runs are those of snapshot2.rs's two loops
-pub dirty-from-left : (fs : List ℕ) (p : ℕ) → left_runs meets both [] (dirty_pages p fs) ≡ dirty_runs p fs
-dirty-from-left fs p = same_runs meets both merging (dirty_pages p fs) ∙ dirty-right fs p
+pub dirty_from_left : (fs : List ℕ) (p : ℕ) → left_runs meets both [] (dirty_pages p fs) ≡ dirty_runs p fs
+dirty_from_left fs p = same_runs meets both merging (dirty_pages p fs) ∙ dirty_right fs p
 
-pub source-from-left : (ts : List Tracking) (p : ℕ) → left_runs continues source.both [] (tracked_pages p ts) ≡ source_runs p ts
-source-from-left ts p = same_runs continues source.both source.merging (tracked_pages p ts) ∙ source-right ts p
+pub source_from_left : (ts : List Tracking) (p : ℕ) → left_runs continues source.both [] (tracked_pages p ts) ≡ source_runs p ts
+source_from_left ts p = same_runs continues source.both source.merging (tracked_pages p ts) ∙ source_right ts p

@@ -138,17 +138,17 @@ or_kept : (s : State) (p f : ℕ) → (or_flag s p f).1.memory.reservation ≡ s
 unfolding or_flag
 or_kept s p f = cases (λ (r : ℕ × State). r.1.memory.reservation ≡ s.memory.reservation) (ltb p (length s.flags)) _ _ (λ t. refl) (λ t. refl)
 
-other-kept : (o : memory.Op) → Other o → (s : State) → (memory.does o s).1.memory.reservation ≡ s.memory.reservation
-other-kept memory.lengths? e s = refl
-other-kept memory.size? e s = refl
-other-kept memory.lr? e s = refl
-other-kept (memory.flag? p) e s = refl
-other-kept (memory.meet? p) e s = refl
-other-kept (memory.byte? a) e s = refl
-other-kept (memory.bytes? a n) e s = refl
-other-kept (memory.part! a bytes) e s = stored-kept s _ _ _
-other-kept (memory.or! p f) e s = or_kept s p f
-other-kept (memory.lr! x) e s = absurd e
+other_kept : (o : memory.Op) → Other o → (s : State) → (memory.does o s).1.memory.reservation ≡ s.memory.reservation
+other_kept memory.lengths? e s = refl
+other_kept memory.size? e s = refl
+other_kept memory.lr? e s = refl
+other_kept (memory.flag? p) e s = refl
+other_kept (memory.meet? p) e s = refl
+other_kept (memory.byte? a) e s = refl
+other_kept (memory.bytes? a n) e s = refl
+other_kept (memory.part! a bytes) e s = stored-kept s _ _ _
+other_kept (memory.or! p f) e s = or_kept s p f
+other_kept (memory.lr! x) e s = absurd e
 
 track-kept : (t : Tracked) (p id offset : ℕ) → reservation_in (track_page t p id offset).1 ≡ reservation_in t
 unfolding track_page
@@ -160,13 +160,13 @@ drop-kept : (t : Tracked) (p : ℕ) → reservation_in (drop_page t p).1 ≡ res
 unfolding drop_page
 drop-kept t p = cases (λ (r : ℕ × Tracked). reservation_in r.1 ≡ reservation_in t) (ltb p (length t.0.flags)) _ _ (λ a. refl) (λ a. refl)
 
-any-kept : (o : AnyOp) → AnyOther o → (t : Tracked) → reservation_in (does o t).1 ≡ reservation_in t
-any-kept (low o) e t = other-kept o e t.0
-any-kept (own lengths?) e t = refl
-any-kept (own (entry? p)) e t = refl
-any-kept (own (track! p id offset)) e t = track-kept t p id offset
-any-kept (own (drop! p)) e t = drop-kept t p
-any-kept (own drop_all!) e t = refl
+any_kept : (o : AnyOp) → AnyOther o → (t : Tracked) → reservation_in (does o t).1 ≡ reservation_in t
+any_kept (low o) e t = other_kept o e t.0
+any_kept (own lengths?) e t = refl
+any_kept (own (entry? p)) e t = refl
+any_kept (own (track! p id offset)) e t = track-kept t p id offset
+any_kept (own (drop! p)) e t = drop-kept t p
+any_kept (own drop_all!) e t = refl
 
 -- ---- the runs ask no other
 
@@ -294,7 +294,7 @@ pages_spared directory sources x t =
     let k : Call ℕ = on_memory (sparse.set_lr x.state.reservation) in
     subst (λ (r : ℕ × Tracked). r.0 ≢ 0 → reservation_in r.1 ≡ reservation_in t)
     (sym (after_run does (λ n. n) g k t _ _ refl))
-    (last (eqb (run does g t).0 0) (run does g t) (only_keeps AnyOther does reservation_in any-kept g (quiet_runs directory sources x.sources x.dirty) t))
+    (last (eqb (run does g t).0 0) (run does g t) (only_keeps AnyOther does reservation_in any_kept g (quiet_runs directory sources x.sources x.dirty) t))
   where
     last : (b : Bool) (u : ℕ × Tracked) → reservation_in u.1 ≡ reservation_in t
         → (run does (cond b (on_memory (sparse.set_lr x.state.reservation)) (ret u.0)) u.1).0 ≢ 0

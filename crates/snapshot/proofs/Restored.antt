@@ -44,12 +44,12 @@ kept-first (variants.Source address flag id offset size) rs = refl
 kept-first (variants.Dirty address flag pages place) rs = refl
 kept-first variants.Bad rs = refl
 
-kept-other : (r : Record) → NotState r → kept_in (r ∷ []) ≡ kept 0 0 0 0 0
-kept-other (variants.State version pc cycles maximum reservation) t = absurd (miss (1 ∷ 2 ∷ 3 ∷ 4 ∷ []) 0 tt t)
-kept-other (variants.Registers first one two three four) t = refl
-kept-other (variants.Source address flag id offset size) t = refl
-kept-other (variants.Dirty address flag pages place) t = refl
-kept-other variants.Bad t = refl
+kept_other : (r : Record) → NotState r → kept_in (r ∷ []) ≡ kept 0 0 0 0 0
+kept_other (variants.State version pc cycles maximum reservation) t = absurd (miss (1 ∷ 2 ∷ 3 ∷ 4 ∷ []) 0 tt t)
+kept_other (variants.Registers first one two three four) t = refl
+kept_other (variants.Source address flag id offset size) t = refl
+kept_other (variants.Dirty address flag pages place) t = refl
+kept_other variants.Bad t = refl
 
 module _ (file : List ℕ) where
   kept_at : kept_in (records_in file) ≡ kept_in (record_at file 0 ∷ [])
@@ -62,7 +62,7 @@ module _ (file : List ℕ) where
 
   module _ (r : Record) (e : r ≡ record_at file 0) where
     pub no-numbers : NotState r → kept 0 0 0 0 0 ≡ kept_in (records_in file)
-    no-numbers t = sym (rw (kept_at, ← e) (kept-other r t))
+    no-numbers t = sym (rw (kept_at, ← e) (kept_other r t))
 
     pub numbers-are : (version pc cycles maximum reservation : ℕ) → r ≡ variants.State version pc cycles maximum reservation
         → kept version pc cycles maximum reservation ≡ kept_in (records_in file)
@@ -142,10 +142,10 @@ module _ (slots area : List ℕ) (m : Memory) (flag : ℕ) (flags₀ : List ℕ)
 -- store, set flags
 module _ (s : State) (a flag : ℕ) (bytes : List ℕ) (n : ℕ) (t : State) (d : Bool)
     (e : (n, t) ≡ run memory.does (wxorx.store_bytes a bytes) s) (i : d ≡ eqb n 0) where
-  pub run-stored : (r : ℕ × State) → d ≡ true → r ≡ run memory.does (set_flags (a / page_size) (length bytes / page_size) flag) t
+  pub run_stored : (r : ℕ × State) → d ≡ true → r ≡ run memory.does (set_flags (a / page_size) (length bytes / page_size) flag) t
       → r ≡ run memory.does (store_run a flag bytes) s
   unfolding store_run
-  run-stored r c q = then_done memory.does _ _ s n t d r e i c q
+  run_stored r c q = then_done memory.does _ _ s n t d r e i c q
 
   pub run-refused : d ≡ false → (n, t) ≡ run memory.does (store_run a flag bytes) s
   unfolding store_run

@@ -60,13 +60,13 @@ at_records file zero i j h = absurd (omega arith)
 at_records file (suc n) i zero h = ap (record_at file) (omega arith)
 at_records file (suc n) i (suc j) h = at_records file n (i + 1) j (omega arith) ∙ ap (record_at file) (omega arith)
 
-at-registers : (registers : List ℕ) (t : List Record) (n next i : ℕ) → i < n
+at_registers : (registers : List ℕ) (t : List Record) (n next i : ℕ) → i < n
     → get_or (register_records_of registers next n ++ t) i Bad ≡ four_at registers (next + i * registers_a_record)
 unfolding register_records_of
-at-registers registers t zero next i h = absurd (omega arith)
-at-registers registers t (suc n) next zero h = ap (four_at registers) (omega arith)
-at-registers registers t (suc n) next (suc i) h =
-    at-registers registers t n (next + registers_a_record) i (omega arith) ∙ ap (four_at registers) (omega arith)
+at_registers registers t zero next i h = absurd (omega arith)
+at_registers registers t (suc n) next zero h = ap (four_at registers) (omega arith)
+at_registers registers t (suc n) next (suc i) h =
+    at_registers registers t n (next + registers_a_record) i (omega arith) ∙ ap (four_at registers) (omega arith)
 
 module _ (file : List ℕ) (size : ℕ) (ok : in_form file size ≡ 0) where
   -- beside any page file of that length
@@ -86,7 +86,7 @@ module _ (file : List ℕ) (size : ℕ) (ok : in_form file size ≡ 0) where
       let m = (accepted file size ok).many in
       let a : get_or (records_in file) (suc i) Bad ≡ record_at file (0 + suc i) = at_records file (count_in file) 0 (suc i) (omega arith) in
       let b : get_or (records_of s) (suc i) Bad ≡ four_at s.registers (0 + i * registers_a_record) =
-      at-registers s.registers (source_records s.sources ++ dirty_records 0 s.dirty) register_records 0 i h in
+      at_registers s.registers (source_records s.sources ++ dirty_records 0 s.dirty) register_records 0 i h in
       ap (record_at file) (omega arith)
       ∙ sym a
       ∙ ap (λ (rs : List Record). get_or rs (suc i) Bad) (sym (held file (filled size 0) beside).records)
@@ -222,11 +222,11 @@ runs_in directory sources file pages =
     restore_runs directory sources (sources_in (records_in file)) (dirty_in pages (records_in file))
 
 module _ (directory sources file pages : List ℕ) (ok : in_form file (length pages) ≡ 0) where
-  runs-from : (t : Tracked)
+  runs_from : (t : Tracked)
       → run does (restore_all directory sources pages (from file (count_in file) least_records)) t
       ≡ run does (runs_in directory sources file pages) t
   unfolding register_records_of page_file_of
-  runs-from t =
+  runs_from t =
       let h : SnapshotIs pages (records_in file) = held file pages ok in
       let s : Snapshot = h.snapshot in
       let a : from file (count_in file) least_records ≡ source_records s.sources ++ dirty_records 0 s.dirty =
@@ -256,7 +256,7 @@ module _ (directory sources file pages : List ℕ) (s₀ : Tracked) where
         flags_kept = refl;
         area_kept = refl;
         records_kept = refl;
-        rest = runs-from directory sources file pages ok s₀;
+        rest = runs_from directory sources file pages ok s₀;
       }
 
   module _ (s : Tracked) (i : ℕ) (w : Restoring directory sources file pages s₀ s i) where

@@ -21,7 +21,7 @@ use Rattle.recordfile.specs.Form.{in_form}
 use Rattle.recordfile.specs.Snapshots.{Kept, kept_in, registers_in, sources_in, dirty_in, snapshot_in}
 use Rattle.tracking.specs.Operations.{MachineCall, does, machine_does, on_memory, fits_all}
 use Rattle.tracking.specs.Answers.{tracked_of}
-use Rattle.tracking.proofs.OnMachine.{on-tracked}
+use Rattle.tracking.proofs.OnMachine.{on_tracked}
 use Rattle.snapshot.specs.declared.resume.Kept as code-kept
 use Rattle.snapshot.specs.Resume.{restore_runs, restore_pages, restore_numbers, restore, resume_from, resume}
 use Rattle.snapshot.specs.Answers.{lent_of, kept_of_file}
@@ -78,7 +78,7 @@ module _ (directory sources file pages slots flags area records : List ℕ) (m :
   unfolding run restore restore_numbers snapshot_in
   machine-restored untracked registers m₁ m₂ m₃ m₄ m₅ m₆ u r e₁ e₂ e₃ e₄ e₅ n slots₂ flags₂ area₂ records₂ memory₂ e w =
       let z : m₅ ≡ numbers_in file m = rw (e₅, e₄, e₃, e₂, e₁, r, ← kept) in
-      on-tracked slots flags area untracked m₅ _ n slots₂ flags₂ area₂ records₂ memory₂ m₆ e w
+      on_tracked slots flags area untracked m₅ _ n slots₂ flags₂ area₂ records₂ memory₂ m₆ e w
       ∙ ap (λ (x : LentMachine). run machine_does (lift (restore_pages directory sources (snapshot_in file pages))) x)
       (rw (u, z) (refl {a = lent_of slots flags area (filled (length records) 0) (numbers_in file m)}))
 

@@ -38,10 +38,10 @@ SourcesLaid entry last p [] = (q : ℕ) → p ≤ q → q < last → entry q ≡
 SourcesLaid entry last p (r ∷ rs) = SourceFront entry last p r × SourcesLaid entry last ((r.address + r.size) / page_size) rs
 
 -- each run's data ends where its last page's does
-pub front-offset : (entry : ℕ → Tracking) (last p top : ℕ) (r : SourceRun)
+pub front_offset : (entry : ℕ → Tracking) (last p top : ℕ) (r : SourceRun)
     → ((q id offset flag : ℕ) → q < last → entry q ≡ Tracked id offset flag → offset + page_size ≤ top)
     → SourceFront entry last p r → r.offset + r.size ≤ top
-front-offset entry last p top r h f =
+front_offset entry last p top r h f =
     let aligned = f.aligned in
     let whole = f.whole in
     let some = f.some in

@@ -185,10 +185,10 @@ unfoldable From : ℕ → List SourceRun → Type 0
 From p [] = Unit {0}
 From p (s ∷ ss) = p * page_size ≤ s.address
 
-from-later : (p q : ℕ) (l : List SourceRun) → p ≤ q → From q l → From p l
+from_later : (p q : ℕ) (l : List SourceRun) → p ≤ q → From q l → From p l
 unfolding From
-from-later p q [] h l = tt
-from-later p q (s ∷ ss) h l = omega arith
+from_later p q [] h l = tt
+from_later p q (s ∷ ss) h l = omega arith
 
 -- runs from page p on, where a run that starts at page p is its entry's
 unfoldable Front : ℕ → Tracking → List SourceRun → Type 0
@@ -212,16 +212,16 @@ module _ (p flag id offset : ℕ) where
   join_front (s ∷ ss) =
       cases (Front p (Tracked id offset flag)) (continues (page_run p flag id offset) s) _ _ (λ e h. refl) (λ e h. refl)
 
-runs-from : (ts : List Tracking) (p : ℕ) → From p (source_runs p ts)
+runs_from : (ts : List Tracking) (p : ℕ) → From p (source_runs p ts)
 unfolding source_runs From
-runs-from [] p = tt
-runs-from (Untracked ∷ ts) p = from-later p (p + 1) (source_runs (p + 1) ts) (omega arith) (runs-from ts (p + 1))
-runs-from (Tracked id offset flag ∷ ts) p = join_from p flag id offset (source_runs (p + 1) ts)
+runs_from [] p = tt
+runs_from (Untracked ∷ ts) p = from_later p (p + 1) (source_runs (p + 1) ts) (omega arith) (runs_from ts (p + 1))
+runs_from (Tracked id offset flag ∷ ts) p = join_from p flag id offset (source_runs (p + 1) ts)
 
 module _ (flags records : List ℕ) where
   sources-later : (p : ℕ) → From p (sources_from flags records p)
   unfolding sources_from
-  sources-later p = runs-from (along (entry_in flags records) (length flags - p) p) p
+  sources-later p = runs_from (along (entry_in flags records) (length flags - p) p) p
 
   sources-front : (p : ℕ) → p < length flags → Front p (entry_in flags records p) (sources_from flags records p)
   sources-front p h = go (entry_in flags records p) refl
@@ -234,12 +234,12 @@ module _ (flags records : List ℕ) where
           rw (sources_joins flags records p h id offset flag q) (join_front p flag id offset (sources_from flags records (p + 1)))
 
 -- a run is not joined to a page whose entry doesn't follow
-front-apart : (p q flag id offset at n : ℕ) (e : Tracking) (l : List SourceRun) → p + n ≡ q → at + page_size ≡ offset + n * page_size
+front_apart : (p q flag id offset at n : ℕ) (e : Tracking) (l : List SourceRun) → p + n ≡ q → at + page_size ≡ offset + n * page_size
     → follows e flag id at ≡ false → Front q e l
     → Apart continues both (source_run (p * page_size) flag id offset (n * page_size)) l
 unfolding Front Apart continues
-front-apart p q flag id offset at n e [] z o f h = tt
-front-apart p q flag id offset at n e (s ∷ ss) z o f h =
+front_apart p q flag id offset at n e [] z o f h = tt
+front_apart p q flag id offset at n e (s ∷ ss) z o f h =
     cases (λ (b : Bool). b ≡ false) (eqb s.address (p * page_size + n * page_size)) _ _
     (λ y.
     let w : s.address ≡ p * page_size + n * page_size = eqb-true _ _ y in
@@ -294,7 +294,7 @@ module _ {flags records : List ℕ} {page flag id offset next at : ℕ} (g : Str
         let above = g.above in
         let z : page + (next - page) ≡ next = omega arith in
         parted
-        (front-apart page next flag id offset at (next - page) (entry_in flags records next) (sources_from flags records next) z g.last
+        (front_apart page next flag id offset at (next - page) (entry_in flags records next) (sources_from flags records next) z g.last
         (rw (← q) (sym f ∙ n))
         (sources-front flags records next h))
 

@@ -28,7 +28,7 @@ use Rattle.recordfile.specs.Records.{words_of, encoded}
 use Rattle.recordfile.specs.Form.{least_records, register_records, registers_a_record}
 use Rattle.recordfile.specs.Snapshots.{state_record, register_records_of, dirty_records, image_of}
 use Rattle.recordfile.proofs.FileRecords.{length_record}
-use Rattle.recordfile.proofs.SnapshotRecords.{length-register_records}
+use Rattle.recordfile.proofs.SnapshotRecords.{length_register_records}
 use Rattle.snapshot.specs.Runs.{a_run}
 use Rattle.snapshot.specs.Answers.{kept_of, head_records, met_run, read_out}
 use Rattle.snapshot.proofs.TakenNow.{each-met}
@@ -97,7 +97,7 @@ module _ (registers file₀ : List ℕ) where
   registers-first h =
       record {
         in_all = omega arith;
-        recorded = recording_first file₀ 1 _ (rw (length-register_records registers 0 register_records) (omega arith));
+        recorded = recording_first file₀ 1 _ (rw (length_register_records registers 0 register_records) (omega arith));
       }
 
   module _ (file : List ℕ) (i : ℕ) (g : WritingRegisters registers file₀ file i) where

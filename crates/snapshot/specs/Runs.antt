@@ -1,5 +1,5 @@
 -- The runs of a snapshot: pages ascending, neighbours merged.
-use Rattle.std.specs.Prelude.{Bool, true, false, cond, List, [], ◌∷◌, ℕ, zero, suc, ◌+◌, ◌-◌, ◌*◌, length, get_or, eqb}
+use Rattle.std.specs.Prelude.{Bool, false, cond, List, [], ◌∷◌, ℕ, ◌+◌, ◌-◌, ◌*◌, length, get_or, eqb}
 use Rattle.std.specs.Int.Bits.{bit_and}
 use Rattle.bits.specs.Rounding.{page_size}
 use Rattle.program.specs.Program.{along}

@@ -10,5 +10,7 @@
 // Both answer on every input and look at all lengths first (refusal 9). What each answers and leaves is one program of specs/
 // (MakeSnapshot.antt, Resume.antt), run on the lent lists; the steps of resume are the programs that the calls of memory and
 // tracking promise.
+#![tactic(auto)]
+
 pub mod make;
 pub mod resume;

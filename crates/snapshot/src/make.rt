@@ -22,7 +22,7 @@ use recordfile::{LEAST_RECORDS, RECORD_BYTES, REGISTER_RECORDS, REGISTERS_A_RECO
 use tracking::records::{TRACKED, Tracking, WORDS};
 
 // What a snapshot answers: the records of the record file, and the pages of the page file.
-#[derive(Drop)]
+#[derive(Clone, Copy)]
 pub struct Made {
     pub outcome: Outcome,
     pub records: u64,
@@ -30,14 +30,14 @@ pub struct Made {
 }
 
 // A run of dirty pages, or the end of the pages.
-#[derive(Drop)]
+#[derive(Clone, Copy)]
 pub enum DirtySpan {
     Run { page: usize, flag: u8, pages: usize },
     End,
 }
 
 // A run of tracked clean pages, or the end of the pages.
-#[derive(Drop)]
+#[derive(Clone, Copy)]
 pub enum SourceSpan {
     Run {
         page: usize,
@@ -50,7 +50,7 @@ pub enum SourceSpan {
 }
 
 // Dirty runs and their pages, counted; or a page's slot that is not in use.
-#[derive(Drop)]
+#[derive(Clone, Copy)]
 pub struct Counted {
     pub outcome: Outcome,
     pub runs: usize,

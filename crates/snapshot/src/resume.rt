@@ -24,7 +24,7 @@ use tracking::sources::Place;
 use tracking::{context, sources};
 
 // The numbers of a state record.
-#[derive(Drop)]
+#[derive(Clone, Copy)]
 pub struct Kept {
     pub version: u32,
     pub pc: u64,

@@ -35,10 +35,10 @@ module _ (s : State) (records : List ℕ) (a id offset : ℕ) (bytes : List ℕ)
 -- untrack, then these
 module _ (s : Tracked) (a id offset : ℕ) (bytes : List ℕ) (n : ℕ) (t : Tracked) (d : Bool)
     (e : (n, t) ≡ run does (untrack_pages a (length bytes)) s) (i : d ≡ eqb n 0) where
-  pub pages-untracked : (r : ℕ × Tracked) → d ≡ true → r ≡ run does (store_tracked a id offset bytes) t
+  pub pages_untracked : (r : ℕ × Tracked) → d ≡ true → r ≡ run does (store_tracked a id offset bytes) t
       → r ≡ run does (replace a id offset bytes) s
   unfolding replace
-  pages-untracked r c q = then_done does _ _ s n t d r e i c q
+  pages_untracked r c q = then_done does _ _ s n t d r e i c q
 
   pub untrack-refused : d ≡ false → (n, t) ≡ run does (replace a id offset bytes) s
   unfolding replace

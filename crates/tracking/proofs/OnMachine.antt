@@ -21,11 +21,11 @@ lent_of slots flags area records m = (tracked_of slots flags area records m.memo
 module _ (slots flags area records : List ℕ) (m : Machine) where
   -- a call of tracking that was given the machine's memory answered x and left these lists and this memory, which `with_memory`
   -- has put into the machine
-  pub on-tracked : {A : Type 0} (g : Call A) (x : A) (slots₂ flags₂ area₂ records₂ : List ℕ) (memory₂ : Memory) (m₂ : Machine)
+  pub on_tracked : {A : Type 0} (g : Call A) (x : A) (slots₂ flags₂ area₂ records₂ : List ℕ) (memory₂ : Memory) (m₂ : Machine)
       → (x, tracked_of slots₂ flags₂ area₂ records₂ memory₂) ≡ run does g (tracked_of slots flags area records m.memory)
       → m₂ ≡ machine_of (numbers_of m) memory₂
       → (x, lent_of slots₂ flags₂ area₂ records₂ m₂) ≡ run machine_does (lift g) (lent_of slots flags area records m)
-  on-tracked {A} g x slots₂ flags₂ area₂ records₂ memory₂ m₂ e w =
+  on_tracked {A} g x slots₂ flags₂ area₂ records₂ memory₂ m₂ e w =
       ap {B = A × LentMachine} (λ (n : Machine). (x, lent_of slots₂ flags₂ area₂ records₂ n)) w
       ∙ lifted does (beside machine.does) g _ (numbers_of m) x (tracked_of slots₂ flags₂ area₂ records₂ memory₂) e
 
@@ -35,7 +35,7 @@ module _ (slots flags area records : List ℕ) (m : Machine) where
       → m₂ ≡ machine_of (numbers_of m) memory₂
       → (x, lent_of slots₂ flags₂ area₂ records m₂) ≡ run machine_does (lift (on_memory g)) (lent_of slots flags area records m)
   memory_call g x slots₂ flags₂ area₂ memory₂ m₂ e w =
-      on-tracked (on_memory g) x slots₂ flags₂ area₂ records memory₂ m₂
+      on_tracked (on_memory g) x slots₂ flags₂ area₂ records memory₂ m₂
       (lifted memory.does owns g _ records x (state_of slots₂ flags₂ area₂ memory₂) e)
       w
 

@@ -118,12 +118,12 @@ module _ (slots area : List ℕ) (m : Memory) (flags₀ records₀ : List ℕ) (
 boundary : (start : ℕ) → (start + (page_size - 1)) / page_size * page_size ≡ distance start + start
 boundary start = omega arith
 
-same-less : (a b start : ℕ) → a < 2 ^ 64 → b < 2 ^ 64 → start < 2 ^ 64 → (a + start) % 2 ^ 64 ≡ (b + start) % 2 ^ 64 → a ≡ b
-same-less a b start f g h e = omega arith
+same_less : (a b start : ℕ) → a < 2 ^ 64 → b < 2 ^ 64 → start < 2 ^ 64 → (a + start) % 2 ^ 64 ≡ (b + start) % 2 ^ 64 → a ≡ b
+same_less a b start f g h e = omega arith
 
 pub distance_is : (start up r : ℕ) → start < 2 ^ 64 → r < 2 ^ 64 → up ≡ rounded_up start → (r + start) % 2 ^ 64 ≡ up → r ≡ distance start
 distance_is start up r s b e q =
-    same-less r (distance start) start b (omega arith) s (q ∙ e ∙ ap (λ (n : ℕ). n % 2 ^ 64) (boundary start))
+    same_less r (distance start) start b (omega arith) s (q ∙ e ∙ ap (λ (n : ℕ). n % 2 ^ 64) (boundary start))
 
 -- the pages that are tracked, where the boundary is so far off
 abbrev whole_from : ℕ → ℕ → ℕ → ℕ → ℕ → Call ℕ

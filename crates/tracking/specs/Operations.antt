@@ -1,5 +1,5 @@
 -- The operations of tracking, above those of the memory, and what each does to lent storage and records.
-use Rattle.std.specs.Prelude.{ℕ, ◌+◌, ◌-◌, ◌^◌, Bool, false, cond, List, length, set, ◌==◌, bit_and, bit_or, nat_le, nat_lt, slice_index, slice_set}
+use Rattle.std.specs.Prelude.{ℕ, ◌+◌, ◌-◌, ◌^◌, Bool, false, cond, List, length, ◌==◌, bit_and, bit_or, nat_le, nat_lt, slice_index, slice_set}
 use Rattle.bits.specs.Rounding.{page_size}
 use Rattle.words.specs.Bytes.{filled}
 use Rattle.program.specs.Program.{Prog, ask, ret}

@@ -22,7 +22,7 @@ pub const ACTION_WORDS: usize = 6;
 const LAST_PAGE: u64 = 18446744073709547520;
 
 // What a context store answers: the bytes stored, and the full length that remained from the offset on.
-#[derive(Drop)]
+#[derive(Clone, Copy)]
 pub struct Stored {
     pub outcome: Outcome,
     pub stored: u64,
@@ -31,7 +31,7 @@ pub struct Stored {
 }
 
 // elf.rs's LoadingAction: where a part of a program goes, and where in its source it lies. `lead` is its offset_from_addr.
-#[derive(Drop)]
+#[derive(Clone, Copy)]
 pub struct LoadingAction {
     pub addr: u64,
     pub size: u64,

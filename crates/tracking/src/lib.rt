@@ -11,6 +11,8 @@
 // Every call answers on every input. Those that are lent a memory with its records look at all lengths first (refusal 9). What
 // each answers and leaves is one program of specs/ (Tracking.antt), run on the lent lists; the memory's part in it is the
 // program that the memory's call promises.
+#![tactic(auto)]
+
 pub mod context;
 pub mod records;
 pub mod sources;

@@ -17,21 +17,21 @@ pub const WORDS: usize = machine::RECORD_WORDS as usize;
 pub const TRACKED: u64 = 256;
 
 // Where a page's bytes come from: nowhere, or an item of the sources, by its id and an offset in it, with the page's flag.
-#[derive(Drop)]
+#[derive(Clone, Copy)]
 pub enum Tracking {
     Untracked,
     Tracked(u64, u64, u8),
 }
 
 // A page and its record.
-#[derive(Drop)]
+#[derive(Clone, Copy)]
 pub struct PageRecord {
     pub page: u64,
     pub tracking: Tracking,
 }
 
 // A page's record, or a refusal.
-#[derive(Drop)]
+#[derive(Clone, Copy)]
 pub struct Recorded {
     pub outcome: Outcome,
     pub entry: PageRecord,

@@ -6,7 +6,7 @@ ghost use Rattle.tracking.specs.Sources.{placed, data_in, find_data, data_of};
 pub const ENTRY_WORDS: usize = 3;
 
 // Where the data of an item lies in the source bytes: its start, its bytes, and the full length that remains from the offset on.
-#[derive(Drop)]
+#[derive(Clone, Copy)]
 pub enum Place {
     Found(usize, usize, u64),
     Missing,

@@ -10,7 +10,7 @@ use lib.ListN.{length, drop, get_or, set, length-take, drop_of_length-le, get_or
 use lib.Seq.{drop-cons, get_or-take, get_or-drop}
 use Rattle.words.specs.Bytes.{part, written}
 use Rattle.words.specs.LittleEndian.{from_le, to_le, Small, Read}
-use Rattle.words.proofs.Written.{written_cons, written-end}
+use Rattle.words.proofs.Written.{written_cons, written_end}
 
 pub length-to_le : (n x : ℕ) → length (to_le n x) ≡ n
 unfolding to_le
@@ -103,4 +103,4 @@ pub write_done : (s d : List ℕ) (at n i x y e : ℕ) → e ≡ min n (length d
     → written s (at + i) (to_le (n - i) y) ≡ written d at (to_le n x)
     → s ≡ written d at (to_le n x)
 write_done s d at n i x y e he h hs w =
-    rw (written-end s (to_le (n - i) y) (at + i) (rw length-to_le (omega arith))) at w
+    rw (written_end s (to_le (n - i) y) (at + i) (rw length-to_le (omega arith))) at w

@@ -27,8 +27,8 @@ module _ (s l : List ℕ) (at : ℕ) (fits : at + length l ≤ length s) where
   length-patch = simp (length-append, length-take-le at s (omega arith), length-drop) (omega arith)
 
 -- a patch that goes on where one of n bytes ended
-pub patch-next : (s l m : List ℕ) (at n : ℕ) → length l ≡ n → at + n ≤ length s → patch (patch s at l) (at + n) m ≡ patch s at (l ++ m)
-patch-next s l m at n e h =
+pub patch_next : (s l m : List ℕ) (at n : ℕ) → length l ≡ n → at + n ≤ length s → patch (patch s at l) (at + n) m ≡ patch s at (l ++ m)
+patch_next s l m at n e h =
     let p : List ℕ = take at s ++ l in
     let r : List ℕ = drop (at + n) s in
     let lp : length p ≡ at + n = simp (length-append, length-take-le at s (omega arith), e) in

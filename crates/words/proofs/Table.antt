@@ -18,9 +18,9 @@ two_read : from_le (0x34 ∷ 0x12 ∷ []) ≡ 4660
 unfolding from_le
 two_read = refl
 
-two-written : to_le 2 4660 ≡ 0x34 ∷ 0x12 ∷ []
+two_written : to_le 2 4660 ≡ 0x34 ∷ 0x12 ∷ []
 unfolding to_le
-two-written = refl
+two_written = refl
 
 four_read : from_le (0x78 ∷ 0x56 ∷ 0x34 ∷ 0x12 ∷ []) ≡ 305419896
 unfolding from_le

@@ -14,23 +14,23 @@ use Rattle.words.specs.Bytes.{part, patch, written}
 use Rattle.words.proofs.Patch.{patch_none, part-patch}
 
 -- no more than n stores find room
-sets-cut : (n : ℕ) (l s : List ℕ) (at : ℕ) → length s ≤ at + n → sets s at l ≡ sets s at (take n l)
-sets-cut zero [] s at h = refl
-sets-cut zero (a ∷ l) s at h = rw (set_out s at a (omega arith)) (sets-cut zero l s (suc at) (omega arith))
-sets-cut (suc n) [] s at h = refl
-sets-cut (suc n) (a ∷ l) s at h = sets-cut n l (set s at a) (suc at) (rw length-set (omega arith))
+sets_cut : (n : ℕ) (l s : List ℕ) (at : ℕ) → length s ≤ at + n → sets s at l ≡ sets s at (take n l)
+sets_cut zero [] s at h = refl
+sets_cut zero (a ∷ l) s at h = rw (set_out s at a (omega arith)) (sets_cut zero l s (suc at) (omega arith))
+sets_cut (suc n) [] s at h = refl
+sets_cut (suc n) (a ∷ l) s at h = sets_cut n l (set s at a) (suc at) (rw length-set (omega arith))
 
 -- what is written is a run of stores, of which those past the end change nothing
 pub written-sets : (s l : List ℕ) (at : ℕ) → written s at l ≡ sets s at l
 unfolding written
 written-sets s l at = elim (dec_le at (length s)) [
   | yes h ↦ sym
-      (sets-cut (length s - at) l s at (omega arith)
+      (sets_cut (length s - at) l s at (omega arith)
       ∙ sets-eq (take (length s - at) l) s at (rw length-take (omega arith))
       ∙ append_assoc (take at s) (take (length s - at) l) _)
   | no h ↦
       let z : length s - at ≡ 0 = omega arith in
-      rw (z, patch_none) (sym (sets-cut zero l s at (omega arith)))
+      rw (z, patch_none) (sym (sets_cut zero l s at (omega arith)))
 ]
 
 pub length-written : (s l : List ℕ) (at : ℕ) → length (written s at l) ≡ length s
@@ -52,15 +52,15 @@ pub written_none : (s : List ℕ) (at : ℕ) → written s at [] ≡ s
 written_none s at = written-sets s [] at
 
 -- stores past the end of the bytes, or of the room for them, are none
-pub written-cut : (s l : List ℕ) (at n : ℕ) → min (length l) (length s - at) ≤ n → written s at (take n l) ≡ written s at l
-written-cut s l at n h = elim (dec_le (length l) n) [
+pub written_cut : (s l : List ℕ) (at n : ℕ) → min (length l) (length s - at) ≤ n → written s at (take n l) ≡ written s at l
+written_cut s l at n h = elim (dec_le (length l) n) [
   | yes k ↦ rw (take_all n l k)
-  | no k ↦ written-sets s (take n l) at ∙ sym (sets-cut n l s at (omega arith)) ∙ sym (written-sets s l at)
+  | no k ↦ written-sets s (take n l) at ∙ sym (sets_cut n l s at (omega arith)) ∙ sym (written-sets s l at)
 ]
 
 -- no byte is left, or no room
-pub written-end : (s l : List ℕ) (at : ℕ) → min (length l) (length s - at) ≡ 0 → written s at l ≡ s
-written-end s l at h = sym (written-cut s l at 0 (omega arith)) ∙ written_none s at
+pub written_end : (s l : List ℕ) (at : ℕ) → min (length l) (length s - at) ≡ 0 → written s at l ≡ s
+written_end s l at h = sym (written_cut s l at 0 (omega arith)) ∙ written_none s at
 
 -- one store, and the rest
 pub written_cons : (s l : List ℕ) (at a : ℕ) → written s at (a ∷ l) ≡ written (set s at a) (suc at) l
@@ -92,8 +92,8 @@ part-before s (a ∷ l) at k n h =
     let d : drop k (set s at a) ≡ set (drop k s) (at - k) a = ap (λ (j : ℕ). drop k (set s j a)) e ∙ drop-set-add k s (at - k) a in
     rw (written_cons s l at a, part-before (set s at a) l (suc at) k n (omega arith), d, take-set-le n (drop k s) (at - k) a (omega arith))
 
-pub part-after : (s l : List ℕ) (at k n : ℕ) → at + length l ≤ k → part (written s at l) k n ≡ part s k n
-part-after s l at k n h = rw (drop-written s l at k h)
+pub part_after : (s l : List ℕ) (at k n : ℕ) → at + length l ≤ k → part (written s at l) k n ≡ part s k n
+part_after s l at k n h = rw (drop-written s l at k h)
 
 -- the same for a byte
 pub written-before : (s l : List ℕ) (at i : ℕ) → i < at → get_or (written s at l) i 0 ≡ get_or s i 0
@@ -129,7 +129,7 @@ lay_more s l t i k e he h w = rw (add-one, ← written_cons) (rw (drop-cons l i 
 pub lay_done : (s d l : List ℕ) (i e : ℕ) → e ≡ min (length d) (length l) → e ≤ i → length s ≡ length d
     → written s i (drop i l) ≡ written d 0 l
     → s ≡ written d 0 l
-lay_done s d l i e he h hs w = rw (written-end s (drop i l) i (rw length-drop (omega arith))) at w
+lay_done s d l i e he h hs w = rw (written_end s (drop i l) i (rw length-drop (omega arith))) at w
 
 -- a copy by way of a page: n bytes of s into p, and from there into d
 pub copied : (d s p q e : List ℕ) (m n : ℕ) → m ≡ min (length s) page_size → n ≡ min (length d) m → length p ≡ page_size
@@ -139,4 +139,4 @@ copied d s p q e m n hm hn hp eq ee =
     let k : length (take n s) ≡ n = length-take-le n s (omega arith) in
     let t : take n q ≡ take n (take page_size s) =
     rw (eq, sub-zero, take-take n page_size s (omega arith)) (rw k at (part-written p (take n s) 0 (omega arith))) in
-    ee ∙ rw (sub-zero, t, written-cut d (take page_size s) 0 n (rw length-take (omega arith)))
+    ee ∙ rw (sub-zero, t, written_cut d (take page_size s) 0 n (rw length-take (omega arith)))

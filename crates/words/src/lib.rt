@@ -6,6 +6,8 @@
 //
 // Each is total: a byte past the end of a slice is not there. It isn't read, and what would be stored there is dropped.
 // What they leave behind is said by `from_le`, `to_le`, `written` and `filled` of specs/.
+#![tactic(auto)]
+
 ghost use Rattle.std.specs.Prelude.{◌≡◌, ◌-◌, ◌<◌, min, length, take};
 ghost use Rattle.bits.specs.Rounding.{page_size};
 ghost use Rattle.words.specs.Bytes.{written, filled};

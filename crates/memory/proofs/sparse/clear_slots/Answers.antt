@@ -1,0 +1,13 @@
+-- Invariant: the first i slot numbers are absent, the rest is as it was. Measure: what is left.
+use Rattle.std.proofs.Common.{rules}
+use Rattle.words.proofs.Filled.{filled_none, filled_more, filled-done}
+use Rattle.memory.proofs.sparse.clear_slots.Goals as goal
+
+pub loop-i-init : goal.loop-i-init
+loop-i-init c = search (rules, filled_none)
+
+pub loop-i-preserved : goal.loop-i-preserved
+loop-i-preserved c = search (rules, filled_more)
+
+pub returns : goal.returns
+returns c = search (rules, filled-done)

@@ -1,0 +1,22 @@
+-- The size, the count, the first record, the register records, then the runs.
+use borrow.Author.Rules.{rules}
+use Rattle.recordfile.proofs.WholeFile.{judged-cut, judged-few, judged-many, judged-other, judged-runs, judged-registers}
+use Rattle.recordfile.proofs.form.judge.Goals as goal
+
+pub returns-then-file-ne0 : goal.returns-then-file-ne0
+returns-then-file-ne0 c = search (rules, judged-cut)
+
+pub returns-then-count-lt-LEAST_RECORDS : goal.returns-then-count-lt-LEAST_RECORDS
+returns-then-count-lt-LEAST_RECORDS c = search (rules, judged-few)
+
+pub returns-then-count-gt-MOST_RECORDS : goal.returns-then-count-gt-MOST_RECORDS
+returns-then-count-gt-MOST_RECORDS c = search (rules, judged-many)
+
+pub returns-in_default : goal.returns-in_default
+returns-in_default c = search (rules, judged-other)
+
+pub returns-then-registers_stand : goal.returns-then-registers_stand
+returns-then-registers_stand c = search (rules, judged-runs)
+
+pub returns : goal.returns
+returns c = search (rules, judged-registers)

@@ -1,0 +1,2 @@
+-- What is proved of an argument.
+pub mod Numerals

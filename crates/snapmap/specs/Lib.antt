@@ -1,0 +1,2 @@
+-- What an argument asks for.
+pub mod Numerals

@@ -1,20 +1,26 @@
 // What a program reads of a file on its standard input, before it writes anything.
 #![tactic(auto)]
 
-ghost use Rattle.std.specs.Prelude.{◌≡◌, take, IfOk, IfSome};
+ghost use Rattle.std.specs.Prelude.{◌≡◌, ◌≤◌, length, take, IfOk, IfSome};
 
-use std::alloc::Global;
 use std::io;
 use std::io::Read;
 
-// All that a reader gives, up to `most` bytes. A failed read is an error, and never a shorter file.
-#[tactic(auto, using(crate::proofs::Limited::limited))]
-pub fn read_up_to<R: Read + Drop>(alloc: Global, reader: R, most: usize) -> io::Result<Vec<u8>>
-    ensures { IfOk result (λ file. IfSome (R.remaining reader) (λ input. file.items ≡ take most input)) }
+// Reads until `buf` is full or the input ends, and answers how many bytes it put at the start of `buf`. A failed read is an
+// error, and never a shorter file.
+pub fn read_full<R: Read>(reader: &mut R, buf: &mut [u8]) -> io::Result<usize>
+    ensures in_bounds { IfOk result (λ count. count ≤ length buf.new) }
+    ensures bytes { IfOk result (λ count. IfSome (R.remaining reader.old) (λ input. take count buf.new ≡ take (length buf.old) input)) }
 {
-    let mut file = Vec::new(alloc);
-    reader.take(most as u64).read_to_end(&mut file)?;
-    Ok(file)
+    let mut done = 0;
+    while done < buf.len() {
+        let count = reader.read(&mut buf[done..])?;
+        if count == 0 {
+            break;
+        }
+        done += count;
+    }
+    Ok(done)
 }
 
 #[cfg(test)]
@@ -22,7 +28,7 @@ mod tests {
     use super::*;
     use std::test::Fail;
 
-    // Gives so many bytes, and then fails.
+    // Gives so many bytes, one at a time, and then fails.
     #[derive(Drop)]
     struct Broken {
         left: usize,
@@ -34,18 +40,19 @@ mod tests {
                 return Err(io::Error::from(io::ErrorKind::Other));
             }
             self.left -= 1;
-            buf[0] = 0;
+            buf[0] = 1;
             Ok(1)
         }
     }
 
     #[test]
     fn a_failed_read_is_an_error(rt: HostRuntime) -> Result<(), Fail> {
+        let mut file = [0u8; 100];
         for given in [0, 1, 48, 99] {
-            assert!(rt; read_up_to(rt.alloc(), Broken { left: given }, 100).is_err());
+            assert!(rt; read_full(&mut Broken { left: given }, &mut file).is_err());
         }
-        let file = read_up_to(rt.alloc(), Broken { left: 100 }, 100)?;
-        assert!(rt; file.len() == 100);
+        let count = read_full(&mut Broken { left: 100 }, &mut file)?;
+        assert!(rt; count == 100);
         Ok(())
     }
 }

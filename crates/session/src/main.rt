@@ -17,7 +17,6 @@ use listing::MOST_TEXT;
 use machine::Machine;
 use outcome::Outcome;
 use recordfile::{MOST_RECORDS, RECORD_BYTES};
-use std::alloc::Global;
 use std::env::{Env, FillError};
 use std::io;
 use std::io::Write;
@@ -270,12 +269,12 @@ fn stop<W: Write>(
 }
 
 // The text of a record file.
-fn list<W: Write>(alloc: Global, writer: &mut W, file: &[u8]) -> io::Result<()>
+fn list<W: Write>(writer: &mut W, file: &[u8]) -> io::Result<()>
     ensures { OnOk result (Appends (W.contents writer.old) (W.contents writer.new)
         (codes "The record file, as snaplist lists it:\n" ++ listing file.now)) }
 {
     writeln!(writer, "The record file, as snaplist lists it:")?;
-    let mut text = vec![in alloc; 0u8; MOST_TEXT]?;
+    let mut text = [0u8; MOST_TEXT];
     let listed = listing::list(file, &mut text);
     let size = listed.size;
     writer.write_all(front(&text, size))?;
@@ -398,7 +397,6 @@ fn elsewhere<W: Write>(
 
 // The first machine is stopped, and goes on elsewhere.
 fn hand_over<W: Write>(
-    alloc: Global,
     writer: &mut W,
     slots: &[u16],
     flags: &[u8],
@@ -415,7 +413,7 @@ fn hand_over<W: Write>(
     )?;
     let record_file = front(&file, written.file);
     let page_file = front(&pages, written.pages);
-    list(alloc, writer, record_file)?;
+    list(writer, record_file)?;
     elsewhere(
         writer,
         slots,
@@ -437,7 +435,7 @@ fn usage<W: Write>(writer: &mut W) -> io::Result<()> {
     )
 }
 
-fn tell<W: Write>(alloc: Global, writer: &mut W) -> io::Result<()> {
+fn tell<W: Write>(writer: &mut W) -> io::Result<()> {
     let sources = readings();
     let directory = [ITEM, 0, ITEM_BYTES as u64];
     let mut slots = [0u16; PAGES];
@@ -454,7 +452,7 @@ fn tell<W: Write>(alloc: Global, writer: &mut W) -> io::Result<()> {
         &sources,
     )?;
     hand_over(
-        alloc, writer, &slots, &flags, &area, &records, &directory, &sources, one,
+        writer, &slots, &flags, &area, &records, &directory, &sources, one,
     )?;
     writer.flush()
 }
@@ -463,5 +461,5 @@ fn main(rt: HostRuntime) -> io::Result<()> {
     let Err(FillError::NotPresent) = rt.arg(1, &mut []) else {
         return usage(&mut rt.stderr());
     };
-    tell(rt.alloc(), &mut rt.stdout())
+    tell(&mut rt.stdout())
 }

@@ -4,13 +4,12 @@
 // takes no argument: given one it says how it is used, and does nothing else.
 #![tactic(auto)]
 
-ghost use Rattle.std.specs.Prelude.{◌≡◌, ◌≤◌, length, take, IfOk, IfSome, OnOk};
+ghost use Rattle.std.specs.Prelude.{◌≡◌, ◌≤◌, length, take, IfSome, OnOk};
 ghost use Rattle.std.specs.Io.KnownBytes.{Appends};
 ghost use Rattle.listing.specs.Listing.{listing, most_text};
 
 use listing::MOST_TEXT;
 use recordfile::{MOST_RECORDS, RECORD_BYTES};
-use std::alloc::{AllocError, Global};
 use std::env::{Env, FillError};
 use std::io;
 use std::io::{Read, Write};
@@ -27,16 +26,6 @@ fn put_text(file: &[u8], text: &mut [u8]) -> usize
     listing::list(file, text).size
 }
 
-// A record file's text.
-fn text_of(alloc: Global, file: &[u8]) -> Result<Vec<u8>, AllocError>
-    ensures { IfOk result (λ text. text.items ≡ listing file.now) }
-{
-    let mut text = vec![in alloc; 0u8; MOST_TEXT]?;
-    let size = put_text(file, &mut text);
-    text.truncate(size);
-    Ok(text)
-}
-
 fn usage<W: Write>(writer: &mut W) -> io::Result<()> {
     writer.write_all(
         b"usage: snaplist < RECORDS\n\
@@ -46,13 +35,15 @@ fn usage<W: Write>(writer: &mut W) -> io::Result<()> {
 
 // Reads a record file to its end, and then writes its text. A file that can't be read to its end gives an error and no text.
 #[tactic(auto, using(listing::proofs::Front::listing_front))]
-fn list_input<R: Read + Drop, W: Write>(alloc: Global, reader: R, writer: &mut W) -> io::Result<()>
-    ensures { OnOk result (IfSome (R.remaining reader) (λ input.
+fn list_input<R: Read, W: Write>(reader: &mut R, writer: &mut W) -> io::Result<()>
+    ensures { OnOk result (IfSome (R.remaining reader.old) (λ input.
         Appends (W.contents writer.old) (W.contents writer.new) (listing input))) }
 {
-    let file = intake::read_up_to(alloc, reader, MOST_READ)?;
-    let text = text_of(alloc, &file)?;
-    writer.write_all(&text)?;
+    let mut file = [0u8; MOST_READ];
+    let mut text = [0u8; MOST_TEXT];
+    let count = intake::read_full(reader, &mut file)?;
+    let size = put_text(&file[..count], &mut text);
+    writer.write_all(&text[..size])?;
     writer.flush()
 }
 
@@ -60,5 +51,5 @@ fn main(rt: HostRuntime) -> io::Result<()> {
     let Err(FillError::NotPresent) = rt.arg(1, &mut []) else {
         return usage(&mut rt.stderr());
     };
-    list_input(rt.alloc(), rt.stdin(), &mut rt.stdout())
+    list_input(&mut rt.stdin(), &mut rt.stdout())
 }

@@ -1,2 +1,3 @@
--- What is proved of an argument.
+-- What is proved of an argument, and of what is written.
+pub mod Drawn
 pub mod Numerals

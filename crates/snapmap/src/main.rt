@@ -4,7 +4,7 @@
 // Given others it says how it is used, and does nothing else.
 #![tactic(auto)]
 
-ghost use Rattle.std.specs.Prelude.{◌≡◌, ◌+◌, ◌≤◌, ℕ, List, [], ◌∷◌, ◌++◌, length, take, IfOk, IfSome, OnOk};
+ghost use Rattle.std.specs.Prelude.{◌≡◌, ◌+◌, ◌≤◌, ℕ, List, [], ◌∷◌, ◌++◌, length, take, IfSome, OnOk};
 ghost use Rattle.std.specs.Io.KnownBytes.{Appends};
 ghost use Rattle.listing.specs.Map.{map, most_map};
 ghost use Rattle.listing.specs.Pages.{most_pages};
@@ -13,7 +13,6 @@ ghost use Rattle.snapmap.specs.Numerals.{most_word, Says, AsksFor, AreFew};
 use listing::MOST_PAGES;
 use listing::map::MOST_MAP;
 use recordfile::{MOST_RECORDS, RECORD_BYTES};
-use std::alloc::{AllocError, Global};
 use std::env::{Env, FillError};
 use std::io;
 use std::io::{Read, Write};
@@ -111,34 +110,19 @@ fn put_map(file: &[u8], out: &mut [u8], pages: u64) -> usize
     listing::map::draw(file, out, pages).size
 }
 
-// A record file's map.
-fn map_of(alloc: Global, file: &[u8], pages: u64) -> Result<Vec<u8>, AllocError>
-    requires { pages ≤ most_pages }
-    ensures { IfOk result (λ out. out.items ≡ map pages file.now) }
-{
-    let mut out = vec![in alloc; 0u8; MOST_MAP]?;
-    let size = put_map(file, &mut out, pages);
-    out.truncate(size);
-    Ok(out)
-}
-
 // Reads a record file to its end, and then writes its map. A file that can't be read to its end gives an error and no map.
-#[tactic(auto, using(listing::proofs::Front::map_front))]
-fn draw_input<R: Read + Drop, W: Write>(
-    alloc: Global,
-    reader: R,
-    writer: &mut W,
-    pages: u64,
-) -> io::Result<()>
-    ensures { pages ≤ most_pages → OnOk result (IfSome (R.remaining reader) (λ input.
+fn draw_input<R: Read, W: Write>(reader: &mut R, writer: &mut W, pages: u64) -> io::Result<()>
+    ensures { pages ≤ most_pages → OnOk result (IfSome (R.remaining reader.old) (λ input.
         Appends (W.contents writer.old) (W.contents writer.new) (map pages input))) }
 {
     if MOST_PAGES < pages {
         return Ok(());
     }
-    let file = intake::read_up_to(alloc, reader, MOST_READ)?;
-    let out = map_of(alloc, &file, pages)?;
-    writer.write_all(&out)?;
+    let mut file = [0u8; MOST_READ];
+    let mut out = [0u8; MOST_MAP];
+    let count = intake::read_full(reader, &mut file)?;
+    let size = put_map(&file[..count], &mut out, pages);
+    writer.write_all(&out[..size])?;
     writer.flush()
 }
 
@@ -147,5 +131,5 @@ fn main(rt: HostRuntime) -> io::Result<()> {
     let Asked::Pages(pages) = asked else {
         return usage(&mut rt.stderr());
     };
-    draw_input(rt.alloc(), rt.stdin(), &mut rt.stdout(), pages)
+    draw_input(&mut rt.stdin(), &mut rt.stdout(), pages)
 }

@@ -77,14 +77,14 @@ fn pages_in(word: &[u8]) -> Asked
 }
 
 // What the arguments ask for: at most one, of at most MOST_WORD bytes.
-fn from_arguments<E: Env>(arguments: &E) -> Asked
+fn from_arguments(rt: &HostRuntime) -> Asked
     ensures { AreFew result }
 {
     let mut word = [0u8; MOST_WORD];
-    let Err(FillError::NotPresent) = arguments.arg(2, &mut word) else {
+    let Err(FillError::NotPresent) = rt.arg(2, &mut word) else {
         return Asked::Unclear;
     };
-    match arguments.arg(1, &mut word) {
+    match rt.arg(1, &mut word) {
         Ok(size) => pages_in(&word[..size]),
         Err(FillError::NotPresent) => Asked::Pages(MOST_PAGES),
         Err(FillError::TooLong) => Asked::Unclear,

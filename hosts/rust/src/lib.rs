@@ -68,8 +68,8 @@
 //!
 //! # Building
 //!
-//! The archive is built by `rt staticlib host` in the repository, and looked for in its target/staticlib, or in the
-//! directory $LATCHPEBBLE_ARCHIVE.
+//! The archive is built by `tools/calls --build port` in the repository, and looked for in its target/staticlib, or in
+//! the directory $LATCHPEBBLE_ARCHIVE.
 
 #[allow(dead_code, unsafe_code)]
 mod archive;

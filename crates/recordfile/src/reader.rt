@@ -1,6 +1,4 @@
-// A reader that holds a record file and its position, over the covered `decode`.
-//
-// The borrow checker covers no function over a struct that holds a slice, so each but `after` is proved by a walk of its MIR.
+// A reader that holds a record file and its position, over `decode`.
 ghost use Rattle.std.specs.Prelude.{◌≡◌};
 ghost use Rattle.recordfile.specs.Records.{record_at};
 ghost use Rattle.recordfile.specs.Reader.{next_to};
@@ -55,7 +53,7 @@ pub fn moved<'a>(r: Reader<'a>) -> Reader<'a>
     }
 }
 
-// The record at a position of a file: plain parameters, so that its callers are covered.
+// The record at a position of a file.
 pub fn read_at(file: &[u8], at: usize) -> Record
     ensures { result ≡ record_at file.now at }
 {

@@ -1,7 +1,8 @@
 // What a program reads of a file on its standard input, before it writes anything.
 #![tactic(auto)]
 
-ghost use Rattle.std.specs.Prelude.{◌≡◌, ◌≤◌, length, take, IfOk, IfSome};
+ghost use Rattle.std.specs.Prelude.{◌≡◌, length, take, IfOk, IfSome};
+ghost use Rattle.std.specs.Io.{ReadsAtMost};
 
 use std::io;
 use std::io::Read;
@@ -9,7 +10,7 @@ use std::io::Read;
 // Reads until `buf` is full or the input ends, and answers how many bytes it put at the start of `buf`. A failed read is an
 // error, and never a shorter file.
 pub fn read_full<R: Read>(reader: &mut R, buf: &mut [u8]) -> io::Result<usize>
-    ensures in_bounds { IfOk result (λ count. count ≤ length buf.new) }
+    ensures in_bounds { ReadsAtMost result buf.new }
     ensures bytes { IfOk result (λ count. IfSome (R.remaining reader.old) (λ input. take count buf.new ≡ take (length buf.old) input)) }
 {
     let mut done = 0;

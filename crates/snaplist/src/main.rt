@@ -5,6 +5,7 @@
 #![tactic(auto)]
 
 ghost use Rattle.std.specs.Prelude.{◌≡◌, ◌≤◌, length, take, IfSome, OnOk};
+ghost use Rattle.std.specs.Counts.{IsPrefixLen};
 ghost use Rattle.std.specs.Io.KnownBytes.{Appends};
 ghost use Rattle.listing.specs.Listing.{listing, most_text};
 
@@ -21,7 +22,7 @@ const MOST_READ: usize = MOST_RECORDS * RECORD_BYTES + 1;
 fn put_text(file: &[u8], text: &mut [u8]) -> usize
     requires { most_text ≤ length text.old }
     ensures text_after { take result text.new ≡ listing file.now }
-    ensures size_in_bounds { result ≤ length text.new }
+    ensures prefix_len { IsPrefixLen result text.new }
 {
     listing::list(file, text).size
 }

@@ -5,6 +5,7 @@
 #![tactic(auto)]
 
 ghost use Rattle.std.specs.Prelude.{◌≡◌, ◌+◌, ◌≤◌, ℕ, List, [], ◌∷◌, ◌++◌, length, take, IfSome, OnOk};
+ghost use Rattle.std.specs.Counts.{IsPrefixLen};
 ghost use Rattle.std.specs.Io.KnownBytes.{Appends};
 ghost use Rattle.listing.specs.Map.{map, most_map};
 ghost use Rattle.listing.specs.Pages.{most_pages};
@@ -105,7 +106,7 @@ fn put_map(file: &[u8], out: &mut [u8], pages: u64) -> usize
     requires pages_le_most_pages { pages ≤ most_pages }
     requires most_map_in_bounds { most_map ≤ length out.old }
     ensures out_after { take result out.new ≡ map pages file.now }
-    ensures size_in_bounds { result ≤ length out.new }
+    ensures prefix_len { IsPrefixLen result out.new }
 {
     listing::map::draw(file, out, pages).size
 }

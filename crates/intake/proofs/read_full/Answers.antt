@@ -1,4 +1,4 @@
-use Rattle.std.proofs.Common.{rules}
+use Rattle.std.proofs.Common.{rules, sym, length-take-le}
 use Rattle.std.proofs.KnownBytes.{Consumes-nil}
 use Rattle.intake.proofs.Filled.{at_end, full, read_more}
 use Rattle.intake.proofs.read_full.Goals as goal
@@ -11,7 +11,7 @@ loop-done-preserved g c =
     (search rules, read_more _ _ _ _ _ _ _ _ c.loop-done.invariant.1 c.in_ok-count.ensures.bytes.0 c.loop-done.invariant.0 c.in_ok-count.ensures.bound.0)
 
 pub returns-after-loop-done-clause-in_bounds : goal.returns-after-loop-done-clause-in_bounds
-returns-after-loop-done-clause-in_bounds g c = c.loop-done.invariant.0
+returns-after-loop-done-clause-in_bounds g c = (c.loop-done.invariant.0, sym (length-take-le _ _ c.loop-done.invariant.0))
 
 pub returns-after-loop-done-clause-bytes : goal.returns-after-loop-done-clause-bytes
 returns-after-loop-done-clause-bytes g c =

@@ -1,5 +1,5 @@
 -- A front that is a byte longer than the largest file tells as much as the whole: what is longer than the largest file is not in the form.
-use Rattle.std.proofs.Common.{◌≡◌, ◌+◌, ◌*◌, ◌%◌, ◌<◌, ℕ, take, length, List, arith, ap, refl, sym, ◌∙◌, inl, inr}
+use Rattle.std.proofs.Common.{◌≡◌, ◌+◌, ◌*◌, ◌%◌, ◌<◌, ℕ, take, length, List, arith, ap, refl, ◌∙◌, inl, inr, subst, Option, None, Some, IfSome}
 use Rattle.std.proofs.lemmas.List.{take_all, length-take-le}
 use Rattle.std.proofs.lemmas.Bool.Decides.{leb_tells, eqb_tells}
 use borrow.Author.Tests.{le-leb, lt-leb}
@@ -39,3 +39,10 @@ map_front pages input = elim (leb_tells (length input) most_bytes) [
   | inl p ↦ ap (map pages) (take_all (most_bytes + 1) input (omega (arith, p.1)))
   | inr p ↦ rw (front_too_long input p.1, too_long input p.1) refl
 ]
+
+-- what holds of the text of such a front holds of the input's
+pub of_input : (f : List ℕ → List ℕ) (n : ℕ) (P : List ℕ → Type 0) (known : Option (List ℕ)) (file text : List ℕ)
+    → ((input : List ℕ) → f (take n input) ≡ f input) → IfSome known (λ input. file ≡ take n input) → text ≡ f file → P text
+    → IfSome known (λ input. P (f input))
+of_input f n P None file text same read laid holds = tt
+of_input f n P (Some input) file text same read laid holds = subst P (laid ∙ ap f read ∙ same input) holds

@@ -5,13 +5,13 @@
 // everything that a call can see of the two is compared.
 #![tactic(auto)]
 
-ghost use Rattle.std.specs.Prelude.{◌≡◌, ◌++◌, take, codes, OnOk};
+ghost use Rattle.std.specs.Prelude.{◌≡◌, take, OnOk};
 ghost use Rattle.std.specs.Bool.{Decides};
 ghost use Rattle.std.specs.Io.KnownBytes.{Appends};
-ghost use Rattle.listing.specs.Listing.{listing};
 ghost use Rattle.tracking.specs.declared.records.Tracking.TheVariants.{Untracked};
 ghost use Rattle.session.specs.Alike.{TrackedAlike};
-ghost use Rattle.session.specs.Said.{said, compared};
+ghost use Rattle.session.specs.Said.{said, compared, listed};
+ghost use Rattle.streams.specs.Fronts.{AppendsFront};
 
 use listing::MOST_TEXT;
 use machine::Machine;
@@ -82,13 +82,17 @@ fn said(equal: bool) -> &'static str
     if equal { "equal" } else { "NOT EQUAL" }
 }
 
-// What was compared, and whether it is equal.
-#[tactic(auto, unfolding(crate::specs::Said::compared))]
-fn say_equal<W: Write>(writer: &mut W, what: &str, equal: bool) -> io::Result<()>
-    ensures { OnOk result (Appends (W.contents writer.old) (W.contents writer.new) (compared what.now equal)) }
+// What was compared, and whether it is equal. After a failed write a front of the line is written.
+fn say_equal<W: Write>(writer: &mut W, what: &[u8], equal: bool) -> io::Result<()>
+    ensures all { OnOk result (Appends (W.contents writer.old) (W.contents writer.new) (compared what.now equal)) }
+    ensures front { AppendsFront (W.contents writer.old) (W.contents writer.new) (compared what.now equal) }
 {
     let verdict = said(equal);
-    writeln!(writer, "  {what}: {verdict}")
+    streams::write_full(writer, b"  ")?;
+    streams::write_full(writer, what)?;
+    streams::write_full(writer, b": ")?;
+    streams::write_full(writer, verdict.as_bytes())?;
+    streams::write_full(writer, b"\n")
 }
 
 // Readings: bytes that a page of zeros or a shifted page would not match.
@@ -268,17 +272,16 @@ fn stop<W: Write>(
     })
 }
 
-// The text of a record file.
+// The text of a record file. After a failed write a front of it is written.
 fn list<W: Write>(writer: &mut W, file: &[u8]) -> io::Result<()>
-    ensures { OnOk result (Appends (W.contents writer.old) (W.contents writer.new)
-        (codes "The record file, as snaplist lists it:\n" ++ listing file.now)) }
+    ensures all { OnOk result (Appends (W.contents writer.old) (W.contents writer.new) (listed file.now)) }
+    ensures front { AppendsFront (W.contents writer.old) (W.contents writer.new) (listed file.now) }
 {
-    writeln!(writer, "The record file, as snaplist lists it:")?;
     let mut text = [0u8; MOST_TEXT];
     let listed = listing::list(file, &mut text);
     let size = listed.size;
-    writer.write_all(front(&text, size))?;
-    Ok(())
+    streams::write_full(writer, b"The record file, as snaplist lists it:\n")?;
+    streams::write_full(writer, front(&text, size))
 }
 
 // A machine is resumed.
@@ -347,17 +350,17 @@ fn compare<W: Write>(
     read_all(slots, flags, area, &mut bytes, one);
     read_all(slots2, flags2, area2, &mut bytes2, two);
     writeln!(writer, "The two machines:")?;
-    say_equal(writer, "bytes", bytes == bytes2)?;
-    say_equal(writer, "flags", flags == flags2)?;
+    say_equal(writer, b"bytes", bytes == bytes2)?;
+    say_equal(writer, b"flags", flags == flags2)?;
     say_equal(
         writer,
-        "tracked pages",
+        b"tracked pages",
         same_tracking(flags, records, flags2, records2),
     )?;
-    say_equal(writer, "registers", same_registers(one, two))?;
+    say_equal(writer, b"registers", same_registers(one, two))?;
     say_equal(
         writer,
-        "pc, version, cycles, maximum, reservation",
+        b"pc, version, cycles, maximum, reservation",
         same_numbers(one, two),
     )
 }

@@ -7,6 +7,7 @@
 ghost use Rattle.std.specs.Prelude.{◌≡◌, ◌≤◌, length, take, IfSome, OnOk};
 ghost use Rattle.std.specs.Counts.{IsPrefixLen};
 ghost use Rattle.std.specs.Io.KnownBytes.{Appends};
+ghost use Rattle.streams.specs.Fronts.{AppendsFront};
 ghost use Rattle.listing.specs.Listing.{listing, most_text};
 
 use listing::MOST_TEXT;
@@ -34,17 +35,20 @@ fn usage<W: Write>(writer: &mut W) -> io::Result<()> {
     )
 }
 
-// Reads a record file to its end, and then writes its text. A file that can't be read to its end gives an error and no text.
+// Reads a record file to its end, and then writes its text. A file that can't be read to its end gives an error and no text;
+// after a failed write a front of the text is written.
 #[tactic(auto, using(listing::proofs::Front::listing_front))]
 fn list_input<R: Read, W: Write>(reader: &mut R, writer: &mut W) -> io::Result<()>
-    ensures { OnOk result (IfSome (R.remaining reader.old) (λ input.
+    ensures all { OnOk result (IfSome (R.remaining reader.old) (λ input.
         Appends (W.contents writer.old) (W.contents writer.new) (listing input))) }
+    ensures front { IfSome (R.remaining reader.old) (λ input.
+        AppendsFront (W.contents writer.old) (W.contents writer.new) (listing input)) }
 {
     let mut file = [0u8; MOST_READ];
     let mut text = [0u8; MOST_TEXT];
-    let count = intake::read_full(reader, &mut file)?;
+    let count = streams::read_full(reader, &mut file)?;
     let size = put_text(&file[..count], &mut text);
-    writer.write_all(&text[..size])?;
+    streams::write_full(writer, &text[..size])?;
     writer.flush()
 }
 

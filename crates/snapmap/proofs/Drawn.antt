@@ -1,19 +1,24 @@
 -- What was written of what was read.
-use Rattle.std.proofs.Common.{◌≡◌, ◌+◌, ◌*◌, ◌∙◌, ap, ℕ, List, ◌++◌, take, Option, None, Some, IfSome, Result, Ok, Err, OnOk}
-use Rattle.std.specs.Io.KnownBytes.{Appends, Keeps}
+use Rattle.std.proofs.Common.{◌≡◌, ◌+◌, ◌*◌, ℕ, List, take, Option, IfSome, Result, Ok, Err, OnOk}
+use Rattle.std.specs.Io.KnownBytes.{Keeps}
+use Rattle.std.proofs.KnownBytes.{Appends-kept}
+use Rattle.streams.specs.Fronts.{AppendsFront}
 use Rattle.recordfile.specs.Words.{record_bytes}
 use Rattle.recordfile.specs.Form.{most_records}
 use Rattle.listing.specs.Map.{map}
-use Rattle.listing.proofs.Front.{map_front}
+use Rattle.listing.proofs.Front.{map_front, of_input}
 
--- the map of a front that is a byte longer than the largest file is the map of the whole
-pub drawn : {T E : Type 0} (flushed : Result T E) (known before mid after : Option (List ℕ)) (pages : ℕ) (file text : List ℕ)
-    → IfSome known (λ input. file ≡ take (most_records * record_bytes + 1) input) → text ≡ map pages file
-    → Appends before mid text → Keeps mid after → OnOk flushed (IfSome known (λ input. Appends before after (map pages input)))
-drawn (Err e) known before mid after pages file text read laid appended kept = tt
-drawn (Ok t) None before mid after pages file text read laid appended kept = tt
-drawn (Ok t) (Some input) None mid after pages file text read laid appended kept = tt
-drawn (Ok t) (Some input) (Some x) None after pages file text read laid appended kept = absurd appended
-drawn (Ok t) (Some input) (Some x) (Some y) None pages file text read laid appended kept = absurd kept
-drawn (Ok t) (Some input) (Some x) (Some y) (Some z) pages file text read laid appended kept =
-    kept ∙ appended ∙ ap (λ l. x ++ l) (laid ∙ ap (map pages) read ∙ map_front pages input)
+-- what holds of the map of a front that is a byte longer than the largest file holds of the input's
+pub drawn : (P : List ℕ → Type 0) (known : Option (List ℕ)) (pages : ℕ) (file text : List ℕ)
+    → IfSome known (λ input. file ≡ take (most_records * record_bytes + 1) input) → text ≡ map pages file → P text
+    → IfSome known (λ input. P (map pages input))
+drawn P known pages file text read laid holds = of_input (map pages) (most_records * record_bytes + 1) P known file text (map_front pages) read laid holds
+
+-- a fact that holds whatever was answered
+pub on_ok : {T E P : Type 0} (answer : Result T E) → P → OnOk answer P
+on_ok (Ok t) holds = holds
+on_ok (Err e) holds = tt
+
+-- a flush adds nothing
+pub front_kept : (old mid new : Option (List ℕ)) (text : List ℕ) → AppendsFront old mid text → Keeps mid new → AppendsFront old new text
+front_kept old mid new text front kept = (front.0, Appends-kept old mid new _ front.1 kept)

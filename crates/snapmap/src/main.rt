@@ -7,6 +7,7 @@
 ghost use Rattle.std.specs.Prelude.{◌≡◌, ◌+◌, ◌≤◌, ℕ, List, [], ◌∷◌, ◌++◌, length, take, IfSome, OnOk};
 ghost use Rattle.std.specs.Counts.{IsPrefixLen};
 ghost use Rattle.std.specs.Io.KnownBytes.{Appends};
+ghost use Rattle.streams.specs.Fronts.{AppendsFront};
 ghost use Rattle.listing.specs.Map.{map, most_map};
 ghost use Rattle.listing.specs.Pages.{most_pages};
 ghost use Rattle.snapmap.specs.Numerals.{most_word, Says, AsksFor, AreFew};
@@ -111,19 +112,22 @@ fn put_map(file: &[u8], out: &mut [u8], pages: u64) -> usize
     listing::map::draw(file, out, pages).size
 }
 
-// Reads a record file to its end, and then writes its map. A file that can't be read to its end gives an error and no map.
+// Reads a record file to its end, and then writes its map. A file that can't be read to its end gives an error and no map;
+// after a failed write a front of the map is written.
 fn draw_input<R: Read, W: Write>(reader: &mut R, writer: &mut W, pages: u64) -> io::Result<()>
-    ensures { pages ≤ most_pages → OnOk result (IfSome (R.remaining reader.old) (λ input.
+    ensures all { pages ≤ most_pages → OnOk result (IfSome (R.remaining reader.old) (λ input.
         Appends (W.contents writer.old) (W.contents writer.new) (map pages input))) }
+    ensures front { IfSome (R.remaining reader.old) (λ input.
+        AppendsFront (W.contents writer.old) (W.contents writer.new) (map pages input)) }
 {
     if MOST_PAGES < pages {
         return Ok(());
     }
     let mut file = [0u8; MOST_READ];
     let mut out = [0u8; MOST_MAP];
-    let count = intake::read_full(reader, &mut file)?;
+    let count = streams::read_full(reader, &mut file)?;
     let size = put_map(&file[..count], &mut out, pages);
-    writer.write_all(&out[..size])?;
+    streams::write_full(writer, &out[..size])?;
     writer.flush()
 }
 

@@ -4,7 +4,7 @@ use Rattle.std.specs.Io.KnownBytes.{Consumes, IsAtEnd}
 use Rattle.std.proofs.KnownBytes.{Consumes-trans}
 use Rattle.std.proofs.lemmas.Slice.{take-put_mid_below}
 use borrow.Rule.Slice.PartMut.{put_mid, post_of}
-use lib.Seq.{take-add, take-append-le}
+use Rattle.std.proofs.Math.Seq.{take-add, take-append-le}
 
 -- the input ended
 pub ended : (known left : Option (List ℕ)) (n m : ℕ) (buf : List ℕ) → Consumes known left (take n buf) → IsAtEnd left → n ≤ m

@@ -1,7 +1,7 @@
 use Rattle.std.proofs.Common.{rules, sym, length-take-le}
 use Rattle.std.proofs.KnownBytes.{Consumes-nil}
-use Rattle.intake.proofs.Filled.{at_end, full, read_more}
-use Rattle.intake.proofs.read_full.Goals as goal
+use Rattle.streams.proofs.Filled.{at_end, full, read_more}
+use Rattle.streams.proofs.read_full.Goals as goal
 
 pub loop-done-init : goal.loop-done-init
 loop-done-init g c = (search rules, Consumes-nil (g.R.Read.remaining c.args.reader.now))

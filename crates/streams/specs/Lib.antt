@@ -1,0 +1,2 @@
+-- What a call that ended with an error had read or written.
+pub mod Fronts

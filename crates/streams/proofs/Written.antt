@@ -1,7 +1,7 @@
 -- What a writer holds that took some bytes part by part.
 use Rattle.std.proofs.Common.{◌≡◌, ◌+◌, ◌-◌, length, take, drop, ℕ, List, ◌++◌, Option, arith, ap, sym, ◌∙◌, subst, take_all, length-drop, min}
 use Rattle.std.specs.Io.KnownBytes.{Appends}
-use Rattle.std.proofs.KnownBytes.{Appends-nil, Appends-trans}
+use Rattle.std.proofs.KnownBytes.{Appends-trans}
 use Rattle.std.proofs.lemmas.List.{take_min}
 use Rattle.std.proofs.Math.Nat.{min-le_right}
 use Rattle.std.proofs.Math.Seq.{take-add, take-append-le, take-append-add}
@@ -17,10 +17,6 @@ more done count bytes =
 pub write_more : (old mid new : Option (List ℕ)) (done count : ℕ) (bytes : List ℕ) → Appends old mid (take done bytes)
     → Appends mid new (take count (take (length bytes - done) (drop done bytes))) → Appends old new (take (done + count) bytes)
 write_more old mid new done count bytes first second = subst (Appends old new) (more done count bytes) (Appends-trans old mid new _ _ first second)
-
--- nothing is a front of everything
-pub front_none : (old : Option (List ℕ)) (bytes : List ℕ) → AppendsFront old old bytes
-front_none old bytes = (0, Appends-nil old)
 
 -- a front of the first part is a front of both
 pub front_left : (old new : Option (List ℕ)) (xs ys : List ℕ) → AppendsFront old new xs → AppendsFront old new (xs ++ ys)

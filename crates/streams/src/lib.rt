@@ -107,6 +107,10 @@ mod tests {
             assert!(rt; write_full(&mut Full { room }, b"abc").is_err());
         }
         write_full(&mut Full { room: 3 }, b"abc")?;
+        let mut room = [0u8; 2];
+        let mut left: &mut [u8] = &mut room;
+        assert!(rt; write_full(&mut left, b"abc").is_err());
+        assert!(rt; room == *b"ab");
         Ok(())
     }
 }

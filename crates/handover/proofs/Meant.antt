@@ -11,21 +11,18 @@ use Rattle.bits.specs.Rounding.{page_size}
 use Rattle.words.specs.Bytes.{filled}
 use Rattle.words.proofs.Filled.{length-filled}
 use Rattle.memory.specs.Pages.{dirty}
-use Rattle.memory.specs.Calls as memory
 use Rattle.memory.proofs.Lengths.{fits-yes}
 use Rattle.memory.proofs.Dirty.{or_dirty}
 use Rattle.machine.specs.Fresh.{LentMachine, record_words, records_fit}
-use Rattle.machine.specs.Operations as machine
 use Rattle.recordfile.specs.Words.{record_bytes}
 use Rattle.recordfile.specs.Records.{flag_values}
 use Rattle.recordfile.specs.Form.{least_records}
 use Rattle.recordfile.specs.Snapshots.{Word}
 use Rattle.handover.specs.View.{view}
-use Rattle.handover.specs.Calls.{Named, round_page_up_call, round_page_down_call, get_page_indices_call, memory_call, numbers_call, load_data_call, untrack_pages_call, store_bytes_call, page_record_call, make_snapshot_call, named, clear_flag_call, Careful}
-use Rattle.handover.specs.Reached.{Reached, TypedNumbers}
-use Rattle.handover.specs.Keeping.{Usual}
+use Rattle.handover.specs.Calls.{Named, named, clear_flag_call, Careful}
+use Rattle.handover.specs.Reached.{Reached}
 use Rattle.handover.specs.Hosts.{Stopped, FreshHost, LongEnough}
-use Rattle.handover.specs.Theorem.{HandedOver}
+use Rattle.handover.specs.Meant.{Somewhere, Always, Meant}
 use Rattle.handover.proofs.WellFormed.{fresh_done, fresh-fits}
 use Rattle.handover.proofs.Reaching.{reached-formed}
 use Rattle.handover.proofs.Theorem.{always-enough, theorem}
@@ -66,15 +63,6 @@ module _ (m : LentMachine) (r : Reached m) (maximum : ℕ) (word : Word maximum)
         as_many_slots = refl;
       }
 
--- a stopped machine, handed over
-pub record Somewhere (directory sources : List ℕ) (m : LentMachine) : Type 0 where
-  pub second : LentMachine
-  pub file : List ℕ
-  pub pages : List ℕ
-  pub fresh_host : FreshHost m second
-  pub long_enough : LongEnough m file pages
-  pub handed : HandedOver directory sources m second file pages
-
 -- EVERY STOPPED MACHINE CAN BE HANDED OVER
 pub handed_somewhere : (directory sources : List ℕ) (m : LentMachine) → Stopped directory sources m → Somewhere directory sources m
 handed_somewhere directory sources m stopped =
@@ -106,38 +94,6 @@ careful_clear p f h e = (h, e)
 dirty_stays : (f g : ℕ) → bit_and g dirty ≢ 0 → bit_and (bit_or f g) dirty ≢ 0
 dirty_stays f g n e = n (or_dirty g f (ap (λ (x : ℕ). bit_and x dirty) (or_comm g f) ∙ e))
 
-pub record Always (directory sources : List ℕ) : Type 0 where
-  pub round_up : (a : ℕ) → Usual directory sources (named (round_page_up_call a))
-  pub round_down : (a : ℕ) → Usual directory sources (named (round_page_down_call a))
-  pub the_page_indices : (a n : ℕ) → Usual directory sources (named (get_page_indices_call a n))
-  pub sparse_init : (a size flags lead : ℕ) (source : List ℕ) → flags < flag_values
-      → Usual directory sources (named (memory_call (memory.init_pages_call memory.on_sparse a size flags lead source)))
-  pub fill : (a size lead : ℕ) (source : List ℕ) → Usual directory sources (named (memory_call (memory.fill_page_data_call a size lead source)))
-  pub fetch_flag_call : (p : ℕ) → Usual directory sources (named (memory_call (memory.fetch_flag_call p)))
-  -- a flag with the dirty bit
-  pub set_flag_call : (p f : ℕ) → f < flag_values → bit_and f dirty ≢ 0 → Usual directory sources (named (memory_call (memory.set_flag_call p f)))
-  pub check_permission_call : (first last want : ℕ) → Usual directory sources (named (memory_call (memory.check_permission_call first last want)))
-  pub set_dirty_call : (first last : ℕ) → Usual directory sources (named (memory_call (memory.set_dirty_call first last)))
-  pub memory_size_call : Usual directory sources (named (memory_call memory.memory_size_call))
-  pub memory_pages_call : Usual directory sources (named (memory_call memory.memory_pages_call))
-  pub byte_stored : (l : memory.Layer) (a n v : ℕ) → Usual directory sources (named (memory_call (memory.store_byte_call l a n v)))
-  pub bytes_stored : (l : memory.Layer) (a : ℕ) (bytes : List ℕ) → Usual directory sources (named (memory_call (memory.store_bytes_call l a bytes)))
-  pub number_stored : (l : memory.Layer) (n a x : ℕ) → Usual directory sources (named (memory_call (memory.store_wide_call l n a x)))
-  pub load_bytes_call : (a n : ℕ) (out : List ℕ) → Usual directory sources (named (memory_call (memory.load_bytes_call a n out)))
-  pub load_wide_call : (n a : ℕ) → Usual directory sources (named (memory_call (memory.load_wide_call n a)))
-  pub execute_load_call : (l : memory.Layer) (n a : ℕ) → Usual directory sources (named (memory_call (memory.execute_load_call l n a)))
-  pub load_c_string_call : (a : ℕ) (out : List ℕ) → Usual directory sources (named (memory_call (memory.load_c_string_call a out)))
-  pub get_lr_call : Usual directory sources (named (memory_call memory.get_lr_call))
-  pub set_lr_call : (x : ℕ) → Word x → Usual directory sources (named (memory_call (memory.set_lr_call x)))
-  pub numbers : (o : machine.Op) → TypedNumbers o → Usual directory sources (named (numbers_call o))
-  pub data_loaded : (d s : List ℕ) (id offset wanted : ℕ) → Usual directory sources (named (load_data_call d s id offset wanted))
-  pub untracked : (start size : ℕ) → Usual directory sources (named (untrack_pages_call start size))
-  -- from the same sources
-  pub context : (a id offset wanted size_at : ℕ) → Word id
-      → Usual directory sources (named (store_bytes_call directory sources a id offset wanted size_at))
-  pub recorded : (p : ℕ) → Usual directory sources (named (page_record_call p))
-  pub snapshot : (file pages : List ℕ) → Usual directory sources (named (make_snapshot_call file pages))
-
 pub always : (directory sources : List ℕ) → Always directory sources
 always directory sources =
     record {
@@ -168,3 +124,8 @@ always directory sources =
       recorded = λ p. (tt, tt, λ m. tt);
       snapshot = λ file pages. (tt, tt, λ m. tt);
     }
+
+-- the statements of specs/Meant.antt
+pub meant : Meant
+meant =
+    record { handed = handed_somewhere; named_careful = careful_named; clear_careful = careful_clear; always_sound = always }

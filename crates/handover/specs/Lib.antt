@@ -9,3 +9,6 @@ pub mod Keeping
 -- the handover theorem:
 pub mod Hosts
 pub mod Theorem
+-- what the theorem speaks of, and that each call is what its promise says:
+pub mod Meant
+pub mod Promised

@@ -1,5 +1,4 @@
 -- What holds of rounding.
-pub mod Masks
 pub mod Wrap
 pub mod Table
 pub mod Once

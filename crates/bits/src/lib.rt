@@ -13,18 +13,20 @@ ghost use Rattle.bits.specs.Rounding.{rounded_up, rounded_down};
 pub const RISCV_PAGESIZE: usize = 4096;
 
 // x rounded up to a whole page, modulo 2^64: above the last whole page it wraps to 0.
+#[inline]
 pub fn round_page_up(x: u64) -> u64
     ensures { result ≡ rounded_up x }
 {
-    let mask = std::num::wrapping_sub_u64(RISCV_PAGESIZE as u64, 1);
-    let negated = std::num::wrapping_add_u64(!x, 1);
-    std::num::wrapping_add_u64(x, negated & mask)
+    let mask = RISCV_PAGESIZE as u64 - 1;
+    let negated = (!x).wrapping_add(1);
+    x.wrapping_add(negated & mask)
 }
 
 // x rounded down to a whole page.
+#[inline]
 pub fn round_page_down(x: u64) -> u64
     ensures { result ≡ rounded_down x }
 {
-    let mask = std::num::wrapping_sub_u64(RISCV_PAGESIZE as u64, 1);
+    let mask = RISCV_PAGESIZE as u64 - 1;
     x & !mask
 }

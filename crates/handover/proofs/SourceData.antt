@@ -17,7 +17,7 @@ use Rattle.words.proofs.Patch.{length_part}
 use Rattle.memory.specs.Storage.{span}
 use Rattle.memory.proofs.Span.{length-span, span_add}
 use Rattle.tracking.specs.Sources.{entry_words, Data, found, missing, data_in, among, find_data, data_of}
-use Rattle.tracking.proofs.Lookup.{entry_past, entry-over, entry-short, entry_found, lookup_inside}
+use Rattle.tracking.proofs.Lookup.{outside, entry-short, entry_found, lookup_inside}
 use Rattle.handover.specs.Sound.{source_gives}
 
 -- ---- parts of a list
@@ -64,13 +64,10 @@ entry_decides room start size = elim (dec_le (start + size) room) [
         start = start;
         size = size;
         inside = h;
-        gives = λ offset wanted o. sym (entry_found room start size offset wanted (omega arith) (omega arith) _ o refl);
-        past = λ offset wanted o. sym (entry-short room start size offset wanted (omega arith) (omega arith) o);
+        gives = λ offset wanted o. sym (entry_found room start size offset wanted h _ _ o refl refl);
+        past = λ offset wanted o. sym (entry-short room start size offset wanted h o);
       })
-  | no h ↦ inr (λ offset wanted. elim (dec_le start room) [
-    | yes l ↦ sym (entry-over room start size offset wanted l (omega arith))
-    | no l ↦ sym (entry_past room start size offset wanted (omega arith))
-  ])
+  | no h ↦ inr (λ offset wanted. sym (outside room start size offset wanted (omega arith)))
 ]
 
 cond_decides : (room : ℕ) (b : Bool) (f g : ℕ → ℕ → Data) → Decided room f → Decided room g

@@ -45,14 +45,14 @@ abbrev OnNumbers : LentMachine → (o : machine.Op) → machine.Reply o × Numbe
 OnNumbers m o r = answer (named (numbers_call o)) m ≡ with_memory m r
 
 pub record Promised (m : LentMachine) : Type 0 where
-  -- bits and memory/src/lib.rt
+  -- bits, memory/src/lib.rt and shared.rt
   pub round_up : (a : ℕ) → answer (named (round_page_up_call a)) m ≡ (rounded_up a, m)
   pub round_down : (a : ℕ) → answer (named (round_page_down_call a)) m ≡ (rounded_down a, m)
   pub indices : (a n : ℕ) → answer (named (get_page_indices_call a n)) m ≡ (page_indices a n, m)
   pub check_permission_call : (first last want : ℕ) → OnMemory m (memory.check_permission_call first last want) (check_permission first last want)
   pub set_dirty_call : (first last : ℕ) → OnMemory m (memory.set_dirty_call first last) (set_dirty first last)
   pub fill_page_data_call : (a size lead : ℕ) (source : List ℕ) → OnMemory m (memory.fill_page_data_call a size lead source) (fill_page_data a size lead source)
-  -- memory/src/sparse.rt and wxorx.rt
+  -- memory/src/layer.rt, shared.rt and load.rt
   pub sparse_init_pages : (a size flags lead : ℕ) (source : List ℕ)
       → OnMemory m (memory.init_pages_call memory.on_sparse a size flags lead source) (fill_page_data a size lead source)
   pub wxorx_init_pages : (a size flags lead : ℕ) (source : List ℕ)

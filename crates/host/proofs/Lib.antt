@@ -1,3 +1,2 @@
--- What a call of a crate below answered, handed out with its number; and that no second outcome fits.
-pub mod Handed
+-- No second outcome fits what a host is handed.
 pub mod Once

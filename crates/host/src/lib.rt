@@ -4,35 +4,44 @@
 // table). A slice is a pointer and a length. A memory goes in as two numbers: its size (`extent`), and last of all its slots in
 // use. A store hands back the slots then in use, and nothing else of a memory changes. The reservation stays with the host.
 // A machine goes in by value and comes back whole. A call that looks at records is lent them beside the memory's storage.
+// Parameters lie apart, an answer is a number with values, and each layer has a function for each call: the C interface.
 #![tactic(auto)]
 
-ghost use Rattle.std.specs.Prelude.{◌≡◌, ◌/◌, length};
+ghost use Rattle.std.specs.Prelude.{◌≡◌, ◌/◌, List, ℕ, length};
 ghost use Rattle.bits.specs.Rounding.{page_size, rounded_up, rounded_down};
 ghost use Rattle.outcome.specs.Numbers.{number_of};
 ghost use Rattle.program.specs.Program.{run};
 ghost use Rattle.memory.specs.Pages.{page_indices};
-ghost use Rattle.memory.specs.Storage.{fresh, reserved};
+ghost use Rattle.memory.specs.Storage.{fresh, no_memory, reserved};
 ghost use Rattle.memory.specs.Operations.{does};
 ghost use Rattle.memory.specs.Sparse.{fetch_flag, set_flag, clear_flag, check_permission, set_dirty, fill_page_data, load_wide, load_bytes, load_c_string, store_byte, store_bytes, store_wide};
 ghost use Rattle.memory.specs.WXorX as wx;
-ghost use Rattle.memory.specs.Answers.{wrote, laid};
-ghost use Rattle.machine.specs.Numbers.{numbers_of, machine_of, changed, register, set_register, update_pc, commit_pc, set_cycles, set_max_cycles};
+ghost use Rattle.memory.specs.Answers.{wrote, laid, value_of, indices_of};
+ghost use Rattle.memory.specs.Lent as memories;
+ghost use Rattle.machine.specs.Numbers.{no_numbers, numbers_of, machine_of, changed, register, set_register, update_pc, commit_pc, set_cycles, set_max_cycles};
+ghost use Rattle.machine.specs.Fresh.{LentMachine};
 ghost use Rattle.machine.specs.Fresh as machines;
 ghost use Rattle.tracking.specs.Sources.{find_data, placed};
 ghost use Rattle.tracking.specs.Operations as tracking;
 ghost use Rattle.tracking.specs.Tracking.{track_pages, untrack_pages, mark_program, page_record};
 ghost use Rattle.tracking.specs.Tracking as context;
+ghost use Rattle.tracking.specs.Answers.{stored_of, recorded_of};
 ghost use Rattle.snapshot.specs.MakeSnapshot.{make_snapshot};
 ghost use Rattle.snapshot.specs.Resume.{resume};
 ghost use Rattle.snapshot.specs.Answers.{lent_of};
 ghost use Rattle.snapshot.specs.Answers as snapshots;
-ghost use Rattle.host.specs.Handed.{handed_made, lent, left, handed, handed_fresh, handed_value, handed_indices, handed_machine, handed_found, lent_tracked, left_context, handed_context, shown, handed_record, shown_of};
+ghost use Rattle.host.specs.Handed.{handed_made, memory_of, lent, left, handed, handed_fresh, handed_value, handed_indices, handed_machine, handed_found, lent_tracked, left_context, handed_context, shown, handed_record, shown_of};
 
-use machine::Machine;
+use machine::{Machine, RISCV_GENERAL_REGISTER_NUMBER};
 use memory::Memory;
-use outcome::Outcome;
-use tracking::records::Tracking;
-use tracking::sources::Place;
+use memory::layer::{Layer, Sparse, WXorX};
+use memory::storage::{Lent, LentFlags, Storage};
+use outcome::Refusal;
+use snapshot::make::Outputs;
+use snapshot::resume::Files;
+use tracking::records::{PageRecord, Tracking};
+use tracking::sources::{Place, Sources};
+use tracking::storage::{TrackedFlags, TrackedLent, TrackedStorage};
 
 // A number of document 01's table, and the slots in use.
 #[derive(Clone, Copy)]
@@ -115,124 +124,192 @@ pub struct Made {
     pub pages: u64,
 }
 
-fn answer_of(answer: memory::Answer) -> Stored
-    ensures { (result.number ≡ number_of answer.outcome) × (result.used ≡ answer.memory.used) }
+// A memory of a host's two numbers.
+fn memory_of(extent: u64, used: u64) -> Memory
+    ensures { result ≡ memory_of extent used }
 {
-    let outcome = answer.outcome;
-    let memory = answer.memory;
-    Stored {
-        number: outcome::number(outcome),
-        used: memory.used,
+    Memory {
+        size: extent,
+        used,
+        reservation: 0,
     }
 }
 
-fn fresh_of(answer: memory::Answer) -> Fresh
-    ensures { (result.number ≡ number_of answer.outcome) × (result.memory ≡ answer.memory) }
-{
-    let outcome = answer.outcome;
-    let memory = answer.memory;
-    Fresh {
-        number: outcome::number(outcome),
-        memory,
-    }
-}
-
-fn value_of(answer: memory::Value) -> Value
-    ensures { (result.number ≡ number_of answer.outcome) × (result.value ≡ answer.value) }
-{
-    let outcome = answer.outcome;
-    Value {
-        number: outcome::number(outcome),
-        value: answer.value,
-    }
-}
-
-fn indices_of(answer: memory::Indices) -> Indices
-    ensures { (result.number ≡ number_of answer.outcome) × (result.first ≡ answer.first) × (result.last ≡ answer.last) }
-{
-    let outcome = answer.outcome;
-    Indices {
-        number: outcome::number(outcome),
-        first: answer.first,
-        last: answer.last,
-    }
-}
-
-fn machine_of(answer: machine::Answer) -> MachineAnswer
-    ensures { (result.number ≡ number_of answer.outcome) × (result.machine ≡ answer.machine) }
-{
-    let outcome = answer.outcome;
-    let machine = answer.machine;
-    MachineAnswer {
-        number: outcome::number(outcome),
-        machine,
-    }
-}
-
-fn found_of(place: Place) -> Found
-    ensures { handed_found result ≡ placed place }
-{
-    let Place::Found(start, count, full) = place else {
-        return Found {
-            number: outcome::number(Outcome::SnapshotDataLoadError),
-            start: 0,
-            count: 0,
-            full: 0,
-        };
-    };
-    Found {
-        number: outcome::number(Outcome::Done),
-        start: start as u64,
-        count: count as u64,
-        full,
-    }
-}
-
-fn context_of(answer: tracking::context::Stored) -> ContextStored
-    ensures { (result.number ≡ number_of answer.outcome) × (result.used ≡ answer.memory.used) × (result.stored ≡ answer.stored) × (result.full ≡ answer.full) }
-{
-    let outcome = answer.outcome;
-    let memory = answer.memory;
-    ContextStored {
-        number: outcome::number(outcome),
-        used: memory.used,
-        stored: answer.stored,
-        full: answer.full,
-    }
-}
-
-fn record_of(answer: tracking::records::Recorded) -> Recorded
-    ensures { handed_record result ≡ shown_of (number_of answer.outcome) answer.entry.tracking }
-{
-    let outcome = answer.outcome;
-    let entry = answer.entry;
-    let tracking = entry.tracking;
-    let Tracking::Tracked(id, offset, flag) = tracking else {
-        return Recorded {
+impl Stored {
+    // What a store came to; the slots in use on a refusal too. Of an answer and a memory, so no `From`.
+    fn after(outcome: Result<(), Refusal>, memory: Memory) -> Stored
+        ensures { (result.number ≡ number_of outcome) × (result.used ≡ memory.used) }
+    {
+        Stored {
             number: outcome::number(outcome),
-            tracked: 0,
-            id: 0,
-            offset: 0,
-            flag: 0,
-        };
-    };
-    Recorded {
-        number: outcome::number(outcome),
-        tracked: 1,
-        id,
-        offset,
-        flag: flag as u32,
+            used: memory.used,
+        }
     }
 }
 
-fn made_of(answer: snapshot::make::Made) -> Made
-    ensures { (result.number ≡ number_of answer.outcome) × (result.records ≡ answer.records) × (result.pages ≡ answer.pages) }
+impl From<Result<Memory, Refusal>> for Fresh {
+    ghost use Rattle.memory.specs.declared.storage.Storage.{Storage};
+
+    ghost from_gives = { λ answer fresh. (s : Storage) → handed_fresh fresh s.slots.now s.flags.now s.area.now ≡ memories.made answer s };
+
+    fn from(answer: Result<Memory, Refusal>) -> Fresh {
+        match answer {
+            Ok(memory) => Fresh { number: 0, memory },
+            Err(refusal) => Fresh {
+                number: u32::from(refusal),
+                memory: memory_of(0, 0),
+            },
+        }
+    }
+}
+
+impl From<Result<u64, Refusal>> for Value {
+    ghost from_gives = { λ answer value. handed_value value ≡ value_of answer };
+
+    fn from(answer: Result<u64, Refusal>) -> Value {
+        match answer {
+            Ok(value) => Value { number: 0, value },
+            Err(refusal) => Value {
+                number: u32::from(refusal),
+                value: 0,
+            },
+        }
+    }
+}
+
+impl From<Result<memory::Indices, Refusal>> for Indices {
+    ghost from_gives = { λ answer indices. handed_indices indices ≡ indices_of answer };
+
+    fn from(answer: Result<memory::Indices, Refusal>) -> Indices {
+        match answer {
+            Ok(indices) => Indices {
+                number: 0,
+                first: indices.first,
+                last: indices.last,
+            },
+            Err(refusal) => Indices {
+                number: u32::from(refusal),
+                first: 0,
+                last: 0,
+            },
+        }
+    }
+}
+
+// What a fresh machine is on a refusal.
+#[tactic(auto, unfolding(words::specs::Bytes::filled))]
+fn no_machine() -> Machine
+    ensures { result ≡ machine_of no_numbers no_memory }
 {
-    let outcome = answer.outcome;
-    Made {
-        number: outcome::number(outcome),
-        records: answer.records,
-        pages: answer.pages,
+    Machine {
+        registers: [0u64; RISCV_GENERAL_REGISTER_NUMBER],
+        pc: 0,
+        next_pc: 0,
+        version: 0,
+        cycles: 0,
+        max_cycles: 0,
+        memory: memory_of(0, 0),
+    }
+}
+
+impl MachineAnswer {
+    // What a call on a machine came to, and the machine that it left. Of the two, so no `From`.
+    fn after(outcome: Result<(), Refusal>, machine: Machine) -> MachineAnswer
+        ensures { (result.number ≡ number_of outcome) × (result.machine ≡ machine) }
+    {
+        MachineAnswer {
+            number: outcome::number(outcome),
+            machine,
+        }
+    }
+}
+
+impl From<Option<Place>> for Found {
+    ghost from_gives = { λ place found. handed_found found ≡ placed place };
+
+    fn from(place: Option<Place>) -> Found {
+        match place {
+            Some(place) => Found {
+                number: 0,
+                start: place.start as u64,
+                count: place.count as u64,
+                full: place.full,
+            },
+            None => Found {
+                number: u32::from(Refusal::SnapshotDataLoadError),
+                start: 0,
+                count: 0,
+                full: 0,
+            },
+        }
+    }
+}
+
+impl ContextStored {
+    // What a context store came to; the slots in use on a refusal too. Of an answer and a memory, so no `From`.
+    fn after(answer: Result<tracking::context::Stored, Refusal>, memory: Memory) -> ContextStored
+        ensures { (result.number ≡ (stored_of answer).number) × (result.used ≡ memory.used) × (result.stored ≡ (stored_of answer).stored) × (result.full ≡ (stored_of answer).full) }
+    {
+        match answer {
+            Ok(answer) => ContextStored {
+                number: 0,
+                used: memory.used,
+                stored: answer.stored,
+                full: answer.full,
+            },
+            Err(refusal) => ContextStored {
+                number: u32::from(refusal),
+                used: memory.used,
+                stored: 0,
+                full: 0,
+            },
+        }
+    }
+}
+
+impl From<Result<PageRecord, Refusal>> for Recorded {
+    ghost from_gives = { λ answer recorded. handed_record recorded ≡ shown_of (recorded_of answer).number (recorded_of answer).tracking };
+
+    fn from(answer: Result<PageRecord, Refusal>) -> Recorded {
+        let (number, tracking) = match answer {
+            Ok(entry) => (0, entry.tracking),
+            Err(refusal) => (u32::from(refusal), Tracking::Untracked),
+        };
+        match tracking {
+            Tracking::Tracked(id, offset, flag) => Recorded {
+                number,
+                tracked: 1,
+                id,
+                offset,
+                flag: u32::from(flag),
+            },
+            Tracking::Untracked => Recorded {
+                number,
+                tracked: 0,
+                id: 0,
+                offset: 0,
+                flag: 0,
+            },
+        }
+    }
+}
+
+impl From<Result<snapshot::make::Made, Refusal>> for Made {
+    ghost from_gives = { λ answer made. (file pages : List ℕ) (m : LentMachine) → handed_made made file pages m ≡ snapshots.made_of answer file pages m };
+
+    fn from(answer: Result<snapshot::make::Made, Refusal>) -> Made {
+        match answer {
+            Ok(made) => Made {
+                number: 0,
+                records: made.records,
+                pages: made.pages,
+            },
+            Err(refusal) => Made {
+                number: u32::from(refusal),
+                records: 0,
+                pages: 0,
+            },
+        }
     }
 }
 
@@ -254,7 +331,7 @@ pub extern "C" fn latchpebble_round_page_down(x: u64) -> u64
 pub extern "C" fn latchpebble_get_page_indices(address: u64, size: u64) -> Indices
     ensures { handed_indices result ≡ page_indices address size }
 {
-    indices_of(memory::get_page_indices(address, size))
+    Indices::from(memory::get_page_indices(address, size))
 }
 
 #[unsafe(no_mangle)]
@@ -270,12 +347,8 @@ pub extern "C" fn latchpebble_check_permission(
 ) -> u32
     ensures { (result, lent slots.now flags.now area.now extent used) ≡ run does (check_permission first last flag) (lent slots.now flags.now area.now extent used) }
 {
-    let memory = Memory {
-        size: extent,
-        used,
-        reservation: 0,
-    };
-    outcome::number(memory::check_permission(slots, flags, area, memory, first, last, flag))
+    let lent = Lent { slots, flags, area };
+    outcome::number(memory_of(extent, used).check_permission(lent, first, last, flag))
 }
 
 #[unsafe(no_mangle)]
@@ -290,12 +363,8 @@ pub extern "C" fn latchpebble_set_dirty(
 ) -> u32
     ensures { (result, lent slots.now flags.new area.now extent used) ≡ run does (set_dirty first last) (lent slots.now flags.old area.now extent used) }
 {
-    let memory = Memory {
-        size: extent,
-        used,
-        reservation: 0,
-    };
-    outcome::number(memory::set_dirty(slots, flags, area, memory, first, last))
+    let mut lent = LentFlags { slots, flags, area };
+    outcome::number(memory_of(extent, used).set_dirty(&mut lent, first, last))
 }
 
 #[unsafe(no_mangle)]
@@ -312,12 +381,10 @@ pub extern "C" fn latchpebble_fill_page_data(
 ) -> Stored
     ensures { handed result slots.new flags.new area.new ≡ left (run does (fill_page_data address size lead source.now) (lent slots.old flags.old area.old extent used)) }
 {
-    let memory = Memory {
-        size: extent,
-        used,
-        reservation: 0,
-    };
-    answer_of(memory::fill_page_data(slots, flags, area, source, memory, address, size, lead))
+    let mut memory = memory_of(extent, used);
+    let mut storage = Storage { slots, flags, area };
+    let outcome = memory.fill_page_data(&mut storage, source, address, size, lead);
+    Stored::after(outcome, memory)
 }
 
 #[unsafe(no_mangle)]
@@ -329,7 +396,8 @@ pub extern "C" fn latchpebble_sparse_fresh(
 ) -> Fresh
     ensures { handed_fresh result slots.new flags.new area.new ≡ fresh slots.old flags.old area.old size }
 {
-    fresh_of(memory::sparse::fresh(slots, flags, area, size))
+    let mut storage = Storage { slots, flags, area };
+    Fresh::from(Memory::fresh(&mut storage, size))
 }
 
 #[unsafe(no_mangle)]
@@ -347,14 +415,10 @@ pub extern "C" fn latchpebble_sparse_init_pages(
 ) -> Stored
     ensures { handed result slots.new flags.new area.new ≡ left (run does (fill_page_data address size lead source.now) (lent slots.old flags.old area.old extent used)) }
 {
-    let memory = Memory {
-        size: extent,
-        used,
-        reservation: 0,
-    };
-    answer_of(memory::sparse::init_pages(
-        slots, flags, area, source, memory, address, size, flag, lead,
-    ))
+    let mut memory = memory_of(extent, used);
+    let mut storage = Storage { slots, flags, area };
+    let outcome = Sparse::init_pages(&mut memory, &mut storage, source, address, size, flag, lead);
+    Stored::after(outcome, memory)
 }
 
 #[unsafe(no_mangle)]
@@ -368,12 +432,8 @@ pub extern "C" fn latchpebble_sparse_fetch_flag(
 ) -> Value
     ensures { (handed_value result, lent slots.now flags.now area.now extent used) ≡ run does (fetch_flag page) (lent slots.now flags.now area.now extent used) }
 {
-    let memory = Memory {
-        size: extent,
-        used,
-        reservation: 0,
-    };
-    value_of(memory::sparse::fetch_flag(slots, flags, area, memory, page))
+    let lent = Lent { slots, flags, area };
+    Value::from(memory_of(extent, used).fetch_flag(lent, page))
 }
 
 #[unsafe(no_mangle)]
@@ -388,12 +448,8 @@ pub extern "C" fn latchpebble_sparse_set_flag(
 ) -> u32
     ensures { (result, lent slots.now flags.new area.now extent used) ≡ run does (set_flag page flag) (lent slots.now flags.old area.now extent used) }
 {
-    let memory = Memory {
-        size: extent,
-        used,
-        reservation: 0,
-    };
-    outcome::number(memory::sparse::set_flag(slots, flags, area, memory, page, flag))
+    let mut lent = LentFlags { slots, flags, area };
+    outcome::number(memory_of(extent, used).set_flag(&mut lent, page, flag))
 }
 
 #[unsafe(no_mangle)]
@@ -408,28 +464,25 @@ pub extern "C" fn latchpebble_sparse_clear_flag(
 ) -> u32
     ensures { (result, lent slots.now flags.new area.now extent used) ≡ clear_flag page flag (lent slots.now flags.old area.now extent used) }
 {
-    let memory = Memory {
-        size: extent,
-        used,
-        reservation: 0,
-    };
-    outcome::number(memory::sparse::clear_flag(slots, flags, area, memory, page, flag))
+    let mut lent = LentFlags { slots, flags, area };
+    outcome::number(memory_of(extent, used).clear_flag(&mut lent, page, flag))
 }
 
 #[unsafe(no_mangle)]
 pub extern "C" fn latchpebble_sparse_memory_size(memory: Memory) -> u64
     ensures { result ≡ memory.size }
 {
-    memory::sparse::memory_size(memory)
+    memory.memory_size()
 }
 
 #[unsafe(no_mangle)]
 pub extern "C" fn latchpebble_sparse_memory_pages(memory: Memory) -> u64
     ensures { result ≡ memory.size / page_size }
 {
-    memory::sparse::memory_pages(memory)
+    memory.memory_pages()
 }
 
+#[tactic(auto, unfolding(memory::specs::Sparse::store_byte))]
 #[unsafe(no_mangle)]
 pub extern "C" fn latchpebble_sparse_store_byte(
     slots: &mut [u16],
@@ -443,12 +496,10 @@ pub extern "C" fn latchpebble_sparse_store_byte(
 ) -> Stored
     ensures { handed result slots.new flags.new area.new ≡ left (run does (store_byte address size value) (lent slots.old flags.old area.old extent used)) }
 {
-    let memory = Memory {
-        size: extent,
-        used,
-        reservation: 0,
-    };
-    answer_of(memory::sparse::store_byte(slots, flags, area, memory, address, size, value))
+    let mut memory = memory_of(extent, used);
+    let mut storage = Storage { slots, flags, area };
+    let outcome = Sparse::store_byte(&mut memory, &mut storage, address, size, value);
+    Stored::after(outcome, memory)
 }
 
 #[unsafe(no_mangle)]
@@ -463,14 +514,13 @@ pub extern "C" fn latchpebble_sparse_store_bytes(
 ) -> Stored
     ensures { handed result slots.new flags.new area.new ≡ left (run does (store_bytes address bytes.now) (lent slots.old flags.old area.old extent used)) }
 {
-    let memory = Memory {
-        size: extent,
-        used,
-        reservation: 0,
-    };
-    answer_of(memory::sparse::store_bytes(slots, flags, area, bytes, memory, address))
+    let mut memory = memory_of(extent, used);
+    let mut storage = Storage { slots, flags, area };
+    let outcome = Sparse::store_bytes(&mut memory, &mut storage, address, bytes);
+    Stored::after(outcome, memory)
 }
 
+#[tactic(auto, unfolding(memory::specs::Sparse::store_wide))]
 #[unsafe(no_mangle)]
 pub extern "C" fn latchpebble_sparse_store8(
     slots: &mut [u16],
@@ -483,14 +533,13 @@ pub extern "C" fn latchpebble_sparse_store8(
 ) -> Stored
     ensures { handed result slots.new flags.new area.new ≡ left (run does (store_wide 1 address value) (lent slots.old flags.old area.old extent used)) }
 {
-    let memory = Memory {
-        size: extent,
-        used,
-        reservation: 0,
-    };
-    answer_of(memory::sparse::store8(slots, flags, area, memory, address, value))
+    let mut memory = memory_of(extent, used);
+    let mut storage = Storage { slots, flags, area };
+    let outcome = Sparse::store8(&mut memory, &mut storage, address, value);
+    Stored::after(outcome, memory)
 }
 
+#[tactic(auto, unfolding(memory::specs::Sparse::store_wide))]
 #[unsafe(no_mangle)]
 pub extern "C" fn latchpebble_sparse_store16(
     slots: &mut [u16],
@@ -503,14 +552,13 @@ pub extern "C" fn latchpebble_sparse_store16(
 ) -> Stored
     ensures { handed result slots.new flags.new area.new ≡ left (run does (store_wide 2 address value) (lent slots.old flags.old area.old extent used)) }
 {
-    let memory = Memory {
-        size: extent,
-        used,
-        reservation: 0,
-    };
-    answer_of(memory::sparse::store16(slots, flags, area, memory, address, value))
+    let mut memory = memory_of(extent, used);
+    let mut storage = Storage { slots, flags, area };
+    let outcome = Sparse::store16(&mut memory, &mut storage, address, value);
+    Stored::after(outcome, memory)
 }
 
+#[tactic(auto, unfolding(memory::specs::Sparse::store_wide))]
 #[unsafe(no_mangle)]
 pub extern "C" fn latchpebble_sparse_store32(
     slots: &mut [u16],
@@ -523,14 +571,13 @@ pub extern "C" fn latchpebble_sparse_store32(
 ) -> Stored
     ensures { handed result slots.new flags.new area.new ≡ left (run does (store_wide 4 address value) (lent slots.old flags.old area.old extent used)) }
 {
-    let memory = Memory {
-        size: extent,
-        used,
-        reservation: 0,
-    };
-    answer_of(memory::sparse::store32(slots, flags, area, memory, address, value))
+    let mut memory = memory_of(extent, used);
+    let mut storage = Storage { slots, flags, area };
+    let outcome = Sparse::store32(&mut memory, &mut storage, address, value);
+    Stored::after(outcome, memory)
 }
 
+#[tactic(auto, unfolding(memory::specs::Sparse::store_wide))]
 #[unsafe(no_mangle)]
 pub extern "C" fn latchpebble_sparse_store64(
     slots: &mut [u16],
@@ -543,12 +590,10 @@ pub extern "C" fn latchpebble_sparse_store64(
 ) -> Stored
     ensures { handed result slots.new flags.new area.new ≡ left (run does (store_wide 8 address value) (lent slots.old flags.old area.old extent used)) }
 {
-    let memory = Memory {
-        size: extent,
-        used,
-        reservation: 0,
-    };
-    answer_of(memory::sparse::store64(slots, flags, area, memory, address, value))
+    let mut memory = memory_of(extent, used);
+    let mut storage = Storage { slots, flags, area };
+    let outcome = Sparse::store64(&mut memory, &mut storage, address, value);
+    Stored::after(outcome, memory)
 }
 
 #[unsafe(no_mangle)]
@@ -562,12 +607,8 @@ pub extern "C" fn latchpebble_sparse_load8(
 ) -> Value
     ensures { (handed_value result, lent slots.now flags.now area.now extent used) ≡ run does (load_wide 1 address) (lent slots.now flags.now area.now extent used) }
 {
-    let memory = Memory {
-        size: extent,
-        used,
-        reservation: 0,
-    };
-    value_of(memory::sparse::load8(slots, flags, area, memory, address))
+    let lent = Lent { slots, flags, area };
+    Value::from(memory_of(extent, used).load8(lent, address))
 }
 
 #[unsafe(no_mangle)]
@@ -581,12 +622,8 @@ pub extern "C" fn latchpebble_sparse_load16(
 ) -> Value
     ensures { (handed_value result, lent slots.now flags.now area.now extent used) ≡ run does (load_wide 2 address) (lent slots.now flags.now area.now extent used) }
 {
-    let memory = Memory {
-        size: extent,
-        used,
-        reservation: 0,
-    };
-    value_of(memory::sparse::load16(slots, flags, area, memory, address))
+    let lent = Lent { slots, flags, area };
+    Value::from(memory_of(extent, used).load16(lent, address))
 }
 
 #[unsafe(no_mangle)]
@@ -600,12 +637,8 @@ pub extern "C" fn latchpebble_sparse_load32(
 ) -> Value
     ensures { (handed_value result, lent slots.now flags.now area.now extent used) ≡ run does (load_wide 4 address) (lent slots.now flags.now area.now extent used) }
 {
-    let memory = Memory {
-        size: extent,
-        used,
-        reservation: 0,
-    };
-    value_of(memory::sparse::load32(slots, flags, area, memory, address))
+    let lent = Lent { slots, flags, area };
+    Value::from(memory_of(extent, used).load32(lent, address))
 }
 
 #[unsafe(no_mangle)]
@@ -619,12 +652,8 @@ pub extern "C" fn latchpebble_sparse_load64(
 ) -> Value
     ensures { (handed_value result, lent slots.now flags.now area.now extent used) ≡ run does (load_wide 8 address) (lent slots.now flags.now area.now extent used) }
 {
-    let memory = Memory {
-        size: extent,
-        used,
-        reservation: 0,
-    };
-    value_of(memory::sparse::load64(slots, flags, area, memory, address))
+    let lent = Lent { slots, flags, area };
+    Value::from(memory_of(extent, used).load64(lent, address))
 }
 
 #[unsafe(no_mangle)]
@@ -638,12 +667,8 @@ pub extern "C" fn latchpebble_sparse_execute_load16(
 ) -> Value
     ensures { (handed_value result, lent slots.now flags.now area.now extent used) ≡ run does (load_wide 2 address) (lent slots.now flags.now area.now extent used) }
 {
-    let memory = Memory {
-        size: extent,
-        used,
-        reservation: 0,
-    };
-    value_of(memory::sparse::execute_load16(slots, flags, area, memory, address))
+    let lent = Lent { slots, flags, area };
+    Value::from(Sparse::execute_load16(memory_of(extent, used), lent, address))
 }
 
 #[unsafe(no_mangle)]
@@ -657,12 +682,8 @@ pub extern "C" fn latchpebble_sparse_execute_load32(
 ) -> Value
     ensures { (handed_value result, lent slots.now flags.now area.now extent used) ≡ run does (load_wide 4 address) (lent slots.now flags.now area.now extent used) }
 {
-    let memory = Memory {
-        size: extent,
-        used,
-        reservation: 0,
-    };
-    value_of(memory::sparse::execute_load32(slots, flags, area, memory, address))
+    let lent = Lent { slots, flags, area };
+    Value::from(Sparse::execute_load32(memory_of(extent, used), lent, address))
 }
 
 #[unsafe(no_mangle)]
@@ -678,12 +699,8 @@ pub extern "C" fn latchpebble_sparse_load_bytes(
 ) -> u32
     ensures { wrote result 0 out.new (lent slots.now flags.now area.now extent used) ≡ laid out.old (run does (load_bytes address size (length out.old)) (lent slots.now flags.now area.now extent used)) }
 {
-    let memory = Memory {
-        size: extent,
-        used,
-        reservation: 0,
-    };
-    outcome::number(memory::sparse::load_bytes(slots, flags, area, out, memory, address, size))
+    let lent = Lent { slots, flags, area };
+    outcome::number(memory_of(extent, used).load_bytes(lent, out, address, size))
 }
 
 #[unsafe(no_mangle)]
@@ -698,26 +715,22 @@ pub extern "C" fn latchpebble_sparse_load_c_string(
 ) -> Value
     ensures { wrote result.number result.value out.new (lent slots.now flags.now area.now extent used) ≡ laid out.old (run does (load_c_string address (length out.old)) (lent slots.now flags.now area.now extent used)) }
 {
-    let memory = Memory {
-        size: extent,
-        used,
-        reservation: 0,
-    };
-    value_of(memory::sparse::load_c_string(slots, flags, area, out, memory, address))
+    let lent = Lent { slots, flags, area };
+    Value::from(memory_of(extent, used).load_c_string(lent, out, address))
 }
 
 #[unsafe(no_mangle)]
 pub extern "C" fn latchpebble_sparse_lr(memory: Memory) -> u64
     ensures { result ≡ memory.reservation }
 {
-    memory::sparse::lr(memory)
+    memory.lr()
 }
 
 #[unsafe(no_mangle)]
 pub extern "C" fn latchpebble_sparse_set_lr(memory: Memory, value: u64) -> Memory
     ensures { result ≡ reserved memory value }
 {
-    memory::sparse::set_lr(memory, value)
+    memory.set_lr(value)
 }
 
 #[unsafe(no_mangle)]
@@ -729,7 +742,8 @@ pub extern "C" fn latchpebble_wxorx_fresh(
 ) -> Fresh
     ensures { handed_fresh result slots.new flags.new area.new ≡ fresh slots.old flags.old area.old size }
 {
-    fresh_of(memory::wxorx::fresh(slots, flags, area, size))
+    let mut storage = Storage { slots, flags, area };
+    Fresh::from(Memory::fresh(&mut storage, size))
 }
 
 #[unsafe(no_mangle)]
@@ -747,14 +761,10 @@ pub extern "C" fn latchpebble_wxorx_init_pages(
 ) -> Stored
     ensures { handed result slots.new flags.new area.new ≡ left (run does (wx.init_pages address size flag lead source.now) (lent slots.old flags.old area.old extent used)) }
 {
-    let memory = Memory {
-        size: extent,
-        used,
-        reservation: 0,
-    };
-    answer_of(memory::wxorx::init_pages(
-        slots, flags, area, source, memory, address, size, flag, lead,
-    ))
+    let mut memory = memory_of(extent, used);
+    let mut storage = Storage { slots, flags, area };
+    let outcome = WXorX::init_pages(&mut memory, &mut storage, source, address, size, flag, lead);
+    Stored::after(outcome, memory)
 }
 
 #[unsafe(no_mangle)]
@@ -768,12 +778,8 @@ pub extern "C" fn latchpebble_wxorx_fetch_flag(
 ) -> Value
     ensures { (handed_value result, lent slots.now flags.now area.now extent used) ≡ run does (fetch_flag page) (lent slots.now flags.now area.now extent used) }
 {
-    let memory = Memory {
-        size: extent,
-        used,
-        reservation: 0,
-    };
-    value_of(memory::wxorx::fetch_flag(slots, flags, area, memory, page))
+    let lent = Lent { slots, flags, area };
+    Value::from(memory_of(extent, used).fetch_flag(lent, page))
 }
 
 #[unsafe(no_mangle)]
@@ -788,12 +794,8 @@ pub extern "C" fn latchpebble_wxorx_set_flag(
 ) -> u32
     ensures { (result, lent slots.now flags.new area.now extent used) ≡ run does (set_flag page flag) (lent slots.now flags.old area.now extent used) }
 {
-    let memory = Memory {
-        size: extent,
-        used,
-        reservation: 0,
-    };
-    outcome::number(memory::wxorx::set_flag(slots, flags, area, memory, page, flag))
+    let mut lent = LentFlags { slots, flags, area };
+    outcome::number(memory_of(extent, used).set_flag(&mut lent, page, flag))
 }
 
 #[unsafe(no_mangle)]
@@ -808,28 +810,25 @@ pub extern "C" fn latchpebble_wxorx_clear_flag(
 ) -> u32
     ensures { (result, lent slots.now flags.new area.now extent used) ≡ clear_flag page flag (lent slots.now flags.old area.now extent used) }
 {
-    let memory = Memory {
-        size: extent,
-        used,
-        reservation: 0,
-    };
-    outcome::number(memory::wxorx::clear_flag(slots, flags, area, memory, page, flag))
+    let mut lent = LentFlags { slots, flags, area };
+    outcome::number(memory_of(extent, used).clear_flag(&mut lent, page, flag))
 }
 
 #[unsafe(no_mangle)]
 pub extern "C" fn latchpebble_wxorx_memory_size(memory: Memory) -> u64
     ensures { result ≡ memory.size }
 {
-    memory::wxorx::memory_size(memory)
+    memory.memory_size()
 }
 
 #[unsafe(no_mangle)]
 pub extern "C" fn latchpebble_wxorx_memory_pages(memory: Memory) -> u64
     ensures { result ≡ memory.size / page_size }
 {
-    memory::wxorx::memory_pages(memory)
+    memory.memory_pages()
 }
 
+#[tactic(auto, unfolding(memory::specs::WXorX::store_byte))]
 #[unsafe(no_mangle)]
 pub extern "C" fn latchpebble_wxorx_store_byte(
     slots: &mut [u16],
@@ -843,12 +842,10 @@ pub extern "C" fn latchpebble_wxorx_store_byte(
 ) -> Stored
     ensures { handed result slots.new flags.new area.new ≡ left (run does (wx.store_byte address size value) (lent slots.old flags.old area.old extent used)) }
 {
-    let memory = Memory {
-        size: extent,
-        used,
-        reservation: 0,
-    };
-    answer_of(memory::wxorx::store_byte(slots, flags, area, memory, address, size, value))
+    let mut memory = memory_of(extent, used);
+    let mut storage = Storage { slots, flags, area };
+    let outcome = WXorX::store_byte(&mut memory, &mut storage, address, size, value);
+    Stored::after(outcome, memory)
 }
 
 #[unsafe(no_mangle)]
@@ -863,14 +860,13 @@ pub extern "C" fn latchpebble_wxorx_store_bytes(
 ) -> Stored
     ensures { handed result slots.new flags.new area.new ≡ left (run does (wx.store_bytes address bytes.now) (lent slots.old flags.old area.old extent used)) }
 {
-    let memory = Memory {
-        size: extent,
-        used,
-        reservation: 0,
-    };
-    answer_of(memory::wxorx::store_bytes(slots, flags, area, bytes, memory, address))
+    let mut memory = memory_of(extent, used);
+    let mut storage = Storage { slots, flags, area };
+    let outcome = WXorX::store_bytes(&mut memory, &mut storage, address, bytes);
+    Stored::after(outcome, memory)
 }
 
+#[tactic(auto, unfolding(memory::specs::WXorX::store_wide))]
 #[unsafe(no_mangle)]
 pub extern "C" fn latchpebble_wxorx_store8(
     slots: &mut [u16],
@@ -883,14 +879,13 @@ pub extern "C" fn latchpebble_wxorx_store8(
 ) -> Stored
     ensures { handed result slots.new flags.new area.new ≡ left (run does (wx.store_wide 1 address value) (lent slots.old flags.old area.old extent used)) }
 {
-    let memory = Memory {
-        size: extent,
-        used,
-        reservation: 0,
-    };
-    answer_of(memory::wxorx::store8(slots, flags, area, memory, address, value))
+    let mut memory = memory_of(extent, used);
+    let mut storage = Storage { slots, flags, area };
+    let outcome = WXorX::store8(&mut memory, &mut storage, address, value);
+    Stored::after(outcome, memory)
 }
 
+#[tactic(auto, unfolding(memory::specs::WXorX::store_wide))]
 #[unsafe(no_mangle)]
 pub extern "C" fn latchpebble_wxorx_store16(
     slots: &mut [u16],
@@ -903,14 +898,13 @@ pub extern "C" fn latchpebble_wxorx_store16(
 ) -> Stored
     ensures { handed result slots.new flags.new area.new ≡ left (run does (wx.store_wide 2 address value) (lent slots.old flags.old area.old extent used)) }
 {
-    let memory = Memory {
-        size: extent,
-        used,
-        reservation: 0,
-    };
-    answer_of(memory::wxorx::store16(slots, flags, area, memory, address, value))
+    let mut memory = memory_of(extent, used);
+    let mut storage = Storage { slots, flags, area };
+    let outcome = WXorX::store16(&mut memory, &mut storage, address, value);
+    Stored::after(outcome, memory)
 }
 
+#[tactic(auto, unfolding(memory::specs::WXorX::store_wide))]
 #[unsafe(no_mangle)]
 pub extern "C" fn latchpebble_wxorx_store32(
     slots: &mut [u16],
@@ -923,14 +917,13 @@ pub extern "C" fn latchpebble_wxorx_store32(
 ) -> Stored
     ensures { handed result slots.new flags.new area.new ≡ left (run does (wx.store_wide 4 address value) (lent slots.old flags.old area.old extent used)) }
 {
-    let memory = Memory {
-        size: extent,
-        used,
-        reservation: 0,
-    };
-    answer_of(memory::wxorx::store32(slots, flags, area, memory, address, value))
+    let mut memory = memory_of(extent, used);
+    let mut storage = Storage { slots, flags, area };
+    let outcome = WXorX::store32(&mut memory, &mut storage, address, value);
+    Stored::after(outcome, memory)
 }
 
+#[tactic(auto, unfolding(memory::specs::WXorX::store_wide))]
 #[unsafe(no_mangle)]
 pub extern "C" fn latchpebble_wxorx_store64(
     slots: &mut [u16],
@@ -943,12 +936,10 @@ pub extern "C" fn latchpebble_wxorx_store64(
 ) -> Stored
     ensures { handed result slots.new flags.new area.new ≡ left (run does (wx.store_wide 8 address value) (lent slots.old flags.old area.old extent used)) }
 {
-    let memory = Memory {
-        size: extent,
-        used,
-        reservation: 0,
-    };
-    answer_of(memory::wxorx::store64(slots, flags, area, memory, address, value))
+    let mut memory = memory_of(extent, used);
+    let mut storage = Storage { slots, flags, area };
+    let outcome = WXorX::store64(&mut memory, &mut storage, address, value);
+    Stored::after(outcome, memory)
 }
 
 #[unsafe(no_mangle)]
@@ -962,12 +953,8 @@ pub extern "C" fn latchpebble_wxorx_load8(
 ) -> Value
     ensures { (handed_value result, lent slots.now flags.now area.now extent used) ≡ run does (load_wide 1 address) (lent slots.now flags.now area.now extent used) }
 {
-    let memory = Memory {
-        size: extent,
-        used,
-        reservation: 0,
-    };
-    value_of(memory::wxorx::load8(slots, flags, area, memory, address))
+    let lent = Lent { slots, flags, area };
+    Value::from(memory_of(extent, used).load8(lent, address))
 }
 
 #[unsafe(no_mangle)]
@@ -981,12 +968,8 @@ pub extern "C" fn latchpebble_wxorx_load16(
 ) -> Value
     ensures { (handed_value result, lent slots.now flags.now area.now extent used) ≡ run does (load_wide 2 address) (lent slots.now flags.now area.now extent used) }
 {
-    let memory = Memory {
-        size: extent,
-        used,
-        reservation: 0,
-    };
-    value_of(memory::wxorx::load16(slots, flags, area, memory, address))
+    let lent = Lent { slots, flags, area };
+    Value::from(memory_of(extent, used).load16(lent, address))
 }
 
 #[unsafe(no_mangle)]
@@ -1000,12 +983,8 @@ pub extern "C" fn latchpebble_wxorx_load32(
 ) -> Value
     ensures { (handed_value result, lent slots.now flags.now area.now extent used) ≡ run does (load_wide 4 address) (lent slots.now flags.now area.now extent used) }
 {
-    let memory = Memory {
-        size: extent,
-        used,
-        reservation: 0,
-    };
-    value_of(memory::wxorx::load32(slots, flags, area, memory, address))
+    let lent = Lent { slots, flags, area };
+    Value::from(memory_of(extent, used).load32(lent, address))
 }
 
 #[unsafe(no_mangle)]
@@ -1019,12 +998,8 @@ pub extern "C" fn latchpebble_wxorx_load64(
 ) -> Value
     ensures { (handed_value result, lent slots.now flags.now area.now extent used) ≡ run does (load_wide 8 address) (lent slots.now flags.now area.now extent used) }
 {
-    let memory = Memory {
-        size: extent,
-        used,
-        reservation: 0,
-    };
-    value_of(memory::wxorx::load64(slots, flags, area, memory, address))
+    let lent = Lent { slots, flags, area };
+    Value::from(memory_of(extent, used).load64(lent, address))
 }
 
 #[unsafe(no_mangle)]
@@ -1038,12 +1013,8 @@ pub extern "C" fn latchpebble_wxorx_execute_load16(
 ) -> Value
     ensures { (handed_value result, lent slots.now flags.now area.now extent used) ≡ run does (wx.execute_load 2 address) (lent slots.now flags.now area.now extent used) }
 {
-    let memory = Memory {
-        size: extent,
-        used,
-        reservation: 0,
-    };
-    value_of(memory::wxorx::execute_load16(slots, flags, area, memory, address))
+    let lent = Lent { slots, flags, area };
+    Value::from(WXorX::execute_load16(memory_of(extent, used), lent, address))
 }
 
 #[unsafe(no_mangle)]
@@ -1057,12 +1028,8 @@ pub extern "C" fn latchpebble_wxorx_execute_load32(
 ) -> Value
     ensures { (handed_value result, lent slots.now flags.now area.now extent used) ≡ run does (wx.execute_load 4 address) (lent slots.now flags.now area.now extent used) }
 {
-    let memory = Memory {
-        size: extent,
-        used,
-        reservation: 0,
-    };
-    value_of(memory::wxorx::execute_load32(slots, flags, area, memory, address))
+    let lent = Lent { slots, flags, area };
+    Value::from(WXorX::execute_load32(memory_of(extent, used), lent, address))
 }
 
 #[unsafe(no_mangle)]
@@ -1078,12 +1045,8 @@ pub extern "C" fn latchpebble_wxorx_load_bytes(
 ) -> u32
     ensures { wrote result 0 out.new (lent slots.now flags.now area.now extent used) ≡ laid out.old (run does (load_bytes address size (length out.old)) (lent slots.now flags.now area.now extent used)) }
 {
-    let memory = Memory {
-        size: extent,
-        used,
-        reservation: 0,
-    };
-    outcome::number(memory::wxorx::load_bytes(slots, flags, area, out, memory, address, size))
+    let lent = Lent { slots, flags, area };
+    outcome::number(memory_of(extent, used).load_bytes(lent, out, address, size))
 }
 
 #[unsafe(no_mangle)]
@@ -1098,26 +1061,22 @@ pub extern "C" fn latchpebble_wxorx_load_c_string(
 ) -> Value
     ensures { wrote result.number result.value out.new (lent slots.now flags.now area.now extent used) ≡ laid out.old (run does (load_c_string address (length out.old)) (lent slots.now flags.now area.now extent used)) }
 {
-    let memory = Memory {
-        size: extent,
-        used,
-        reservation: 0,
-    };
-    value_of(memory::wxorx::load_c_string(slots, flags, area, out, memory, address))
+    let lent = Lent { slots, flags, area };
+    Value::from(memory_of(extent, used).load_c_string(lent, out, address))
 }
 
 #[unsafe(no_mangle)]
 pub extern "C" fn latchpebble_wxorx_lr(memory: Memory) -> u64
     ensures { result ≡ memory.reservation }
 {
-    memory::wxorx::lr(memory)
+    memory.lr()
 }
 
 #[unsafe(no_mangle)]
 pub extern "C" fn latchpebble_wxorx_set_lr(memory: Memory, value: u64) -> Memory
     ensures { result ≡ reserved memory value }
 {
-    memory::wxorx::set_lr(memory, value)
+    memory.set_lr(value)
 }
 
 #[unsafe(no_mangle)]
@@ -1132,14 +1091,21 @@ pub extern "C" fn latchpebble_machine_fresh(
 ) -> MachineAnswer
     ensures { handed_machine result slots.new flags.new area.new records.new ≡ machines.fresh slots.old flags.old area.old records.old size version maximum }
 {
-    machine_of(machine::fresh(slots, flags, area, records, size, version, maximum))
+    let mut storage = Storage { slots, flags, area };
+    match Machine::fresh(&mut storage, records, size, version, maximum) {
+        Ok(machine) => MachineAnswer { number: 0, machine },
+        Err(refusal) => MachineAnswer {
+            number: u32::from(refusal),
+            machine: no_machine(),
+        },
+    }
 }
 
 #[unsafe(no_mangle)]
 pub extern "C" fn latchpebble_machine_register(machine: Machine, i: u64) -> Value
     ensures { handed_value result ≡ register i (numbers_of machine) }
 {
-    value_of(machine.register(i))
+    Value::from(machine.register(i))
 }
 
 #[unsafe(no_mangle)]
@@ -1150,7 +1116,8 @@ pub extern "C" fn latchpebble_machine_set_register(
 ) -> MachineAnswer
     ensures { (result.number, result.machine) ≡ changed (set_register i value (numbers_of machine)) machine.memory }
 {
-    machine_of(machine.set_register(i, value))
+    let answer = machine.set_register(i, value);
+    MachineAnswer::after(answer.outcome, answer.machine)
 }
 
 #[unsafe(no_mangle)]
@@ -1219,7 +1186,11 @@ pub extern "C" fn latchpebble_find_data(
 ) -> Found
     ensures { handed_found result ≡ find_data directory.now (length sources.now) id offset size }
 {
-    found_of(tracking::sources::find_data(directory, sources, id, offset, size))
+    let sources = Sources {
+        directory,
+        bytes: sources,
+    };
+    Found::from(sources.find_data(id, offset, size))
 }
 
 #[unsafe(no_mangle)]
@@ -1237,14 +1208,13 @@ pub extern "C" fn latchpebble_track_pages(
 ) -> u32
     ensures { (result, lent_tracked slots.now flags.new area.now records.new extent used) ≡ run tracking.does (track_pages start size id offset) (lent_tracked slots.now flags.old area.now records.old extent used) }
 {
-    let memory = Memory {
-        size: extent,
-        used,
-        reservation: 0,
+    let mut tracked = TrackedFlags {
+        slots,
+        flags,
+        area,
+        records,
     };
-    outcome::number(tracking::context::track_pages(
-        slots, flags, area, records, memory, start, size, id, offset,
-    ))
+    outcome::number(tracked.track_pages(memory_of(extent, used), start, size, id, offset))
 }
 
 #[unsafe(no_mangle)]
@@ -1260,14 +1230,13 @@ pub extern "C" fn latchpebble_untrack_pages(
 ) -> u32
     ensures { (result, lent_tracked slots.now flags.new area.now records.new extent used) ≡ run tracking.does (untrack_pages start size) (lent_tracked slots.now flags.old area.now records.old extent used) }
 {
-    let memory = Memory {
-        size: extent,
-        used,
-        reservation: 0,
+    let mut tracked = TrackedFlags {
+        slots,
+        flags,
+        area,
+        records,
     };
-    outcome::number(tracking::context::untrack_pages(
-        slots, flags, area, records, memory, start, size,
-    ))
+    outcome::number(tracked.untrack_pages(memory_of(extent, used), start, size))
 }
 
 #[unsafe(no_mangle)]
@@ -1288,14 +1257,19 @@ pub extern "C" fn latchpebble_context_store_bytes(
 ) -> ContextStored
     ensures { handed_context result slots.new flags.new area.new records.new ≡ left_context (run tracking.does (context.store_bytes directory.now sources.now address id offset size place) (lent_tracked slots.old flags.old area.old records.old extent used)) }
 {
-    let memory = Memory {
-        size: extent,
-        used,
-        reservation: 0,
+    let mut memory = memory_of(extent, used);
+    let mut tracked = TrackedStorage {
+        slots,
+        flags,
+        area,
+        records,
     };
-    context_of(tracking::context::store_bytes(
-        slots, flags, area, records, directory, sources, memory, address, id, offset, size, place,
-    ))
+    let sources = Sources {
+        directory,
+        bytes: sources,
+    };
+    let answer = tracked.store_bytes(&mut memory, sources, address, id, offset, size, place);
+    ContextStored::after(answer, memory)
 }
 
 #[unsafe(no_mangle)]
@@ -1312,14 +1286,13 @@ pub extern "C" fn latchpebble_mark_program(
 ) -> u32
     ensures { (result, lent_tracked slots.now flags.new area.now records.new extent used) ≡ run tracking.does (mark_program actions.now id offset) (lent_tracked slots.now flags.old area.now records.old extent used) }
 {
-    let memory = Memory {
-        size: extent,
-        used,
-        reservation: 0,
+    let mut tracked = TrackedFlags {
+        slots,
+        flags,
+        area,
+        records,
     };
-    outcome::number(tracking::context::mark_program(
-        slots, flags, area, records, actions, memory, id, offset,
-    ))
+    outcome::number(tracked.mark_program(memory_of(extent, used), actions, id, offset))
 }
 
 #[unsafe(no_mangle)]
@@ -1334,12 +1307,13 @@ pub extern "C" fn latchpebble_page_record(
 ) -> Recorded
     ensures { (handed_record result, lent_tracked slots.now flags.now area.now records.now extent used) ≡ shown (run tracking.does (page_record page) (lent_tracked slots.now flags.now area.now records.now extent used)) }
 {
-    let memory = Memory {
-        size: extent,
-        used,
-        reservation: 0,
+    let tracked = TrackedLent {
+        slots,
+        flags,
+        area,
+        records,
     };
-    record_of(tracking::records::page_record(slots, flags, area, records, memory, page))
+    Recorded::from(tracked.page_record(memory_of(extent, used), page))
 }
 
 #[unsafe(no_mangle)]
@@ -1354,7 +1328,14 @@ pub extern "C" fn latchpebble_make_snapshot(
 ) -> Made
     ensures { handed_made result file.new pages.new (lent_of slots.now flags.now area.now records.now machine) ≡ snapshots.laid file.old pages.old (run tracking.machine_does (make_snapshot (length file.old) (length pages.old)) (lent_of slots.now flags.now area.now records.now machine)) }
 {
-    made_of(snapshot::make::make_snapshot(slots, flags, area, records, file, pages, machine))
+    let tracked = TrackedLent {
+        slots,
+        flags,
+        area,
+        records,
+    };
+    let mut outputs = Outputs { file, pages };
+    Made::from(snapshot::make::make_snapshot(tracked, &mut outputs, machine))
 }
 
 #[unsafe(no_mangle)]
@@ -1371,7 +1352,22 @@ pub extern "C" fn latchpebble_resume(
 ) -> MachineAnswer
     ensures { handed_machine result slots.new flags.new area.new records.new ≡ run tracking.machine_does (resume directory.now sources.now file.now pages.now) (lent_of slots.old flags.old area.old records.old machine) }
 {
-    machine_of(snapshot::resume::resume(
-        slots, flags, area, records, directory, sources, file, pages, machine,
-    ))
+    let mut machine = machine;
+    let mut tracked = TrackedStorage {
+        slots,
+        flags,
+        area,
+        records,
+    };
+    let sources = Sources {
+        directory,
+        bytes: sources,
+    };
+    let outcome = snapshot::resume::resume(
+        &mut tracked,
+        sources,
+        Files { file, pages },
+        &mut machine,
+    );
+    MachineAnswer::after(outcome, machine)
 }

@@ -1,20 +1,21 @@
 -- Pages and runs that are counted: a run that is not drawn whole, and the turns of counting.
 use mathlib.Core.Path.{◌≡◌, refl, sym, ◌∙◌}
 use mathlib.Core.Bool.{Bool, true, false, cond}
-use mathlib.Core.List.{List}
-use Prim.Native.Nat.{ℕ, suc, ◌+◌, ◌-◌, ◌*◌, ◌%◌, ◌^◌, ◌≤◌, ◌<◌, min}
-use native.Mathlib.Nat.{sub-zero, add-zero, min-eq_left}
+use mathlib.Core.List.{List, [], ◌∷◌}
+use Prim.Native.Nat.{ℕ, ◌+◌, ◌-◌, ◌*◌, ◌%◌, ◌^◌, ◌≤◌, ◌<◌, min}
+use native.Mathlib.Nat.{min-eq_left}
 use native.Mathlib.Numerals.{add-one}
 use native.Mathlib.Decide.{dec_le}
 use native.Mathlib.Omega.{arith}
 use lib.Dec.{eqb, leb}
 use borrow.Author.Tests.{le-leb, lt-leb, eq-eqb, ne_eqb}
 use Rattle.bits.specs.Rounding.{page_size}
-use Rattle.recordfile.specs.Records.{count_in, record_at, records_from, records_in}
 use Rattle.recordfile.specs.declared.Record.{Record}
 use Rattle.recordfile.specs.declared.Record.TheVariants as entry
 use Rattle.listing.specs.Pages.{most_pages, said_of, pages_that, is_dirty, is_source, is_left_out, partly, partly_by, runs_partly}
 use Rattle.listing.specs.declared.pages.Said.{Said}
+use Rattle.listing.specs.declared.pages.Said.TheVariants.{LeftOut, Source, Dirty}
+use lib.ListN.{length}
 
 -- ---- a run
 
@@ -79,48 +80,58 @@ module _ (pages : ℕ) (r : Record) (p : ℕ) where
   unfolding partly_by
   dirty-partly address flag count place size h few s e = rw h (e ∙ rw s (partly-capped pages address count few))
 
-module _ (pages : ℕ) (r : Record) where
-  pub state-whole : (a b c d e : ℕ) → r ≡ entry.State a b c d e → 0 ≡ partly_by pages r
-  unfolding partly_by
-  state-whole a b c d e h = rw h
+-- the others are no runs
+pub no_run : (pages : ℕ) (r : Record)
+    → ((address flag id offset size : ℕ) → r ≡ entry.Source address flag id offset size → ⊥)
+    → ((address flag count place : ℕ) → r ≡ entry.Dirty address flag count place → ⊥)
+    → 0 ≡ partly_by pages r
+unfolding partly_by
+no_run pages (entry.State a b c d e) n m = refl
+no_run pages (entry.Registers a b c d e) n m = refl
+no_run pages (entry.Source a b c d e) n m = absurd (n _ _ _ _ _ refl)
+no_run pages (entry.Dirty a b c d) n m = absurd (m _ _ _ _ refl)
+no_run pages entry.Bad n m = refl
 
-  pub registers-whole : (a b c d e : ℕ) → r ≡ entry.Registers a b c d e → 0 ≡ partly_by pages r
-  unfolding partly_by
-  registers-whole a b c d e h = rw h
+-- ---- the records that are left
 
-  pub bad_whole : r ≡ entry.Bad → 0 ≡ partly_by pages r
-  unfolding partly_by
-  bad_whole h = rw h
-
--- ---- the records from i on
-
-module _ (file : List ℕ) (pages count : ℕ) where
+module _ (rs : List Record) (pages : ℕ) where
   -- with those counted they come to all
-  pub record Running (runs i : ℕ) : Type 0 where
-    pub within : i ≤ count
-    pub few : runs ≤ i
-    pub sum : runs + runs_partly pages (records_from file i (count - i)) ≡ runs_partly pages (records_in file)
+  pub record Running (runs : ℕ) (ts : List Record) : Type 0 where
+    pub few : runs + length ts ≤ length rs
+    pub sum : runs + runs_partly pages ts ≡ runs_partly pages rs
 
-  pub running_all : count ≡ count_in file → Running 0 0
-  running_all e = record { within = omega arith; few = omega arith; sum = rw (sub-zero, e) (omega arith) }
-
-  module _ (runs i : ℕ) (g : Running runs i) where
+  module _ (runs : ℕ) (ts : List Record) (g : Running runs ts) where
     -- a turn: the next record
-    pub running_next : (r : Record) (p : ℕ) → i < count → r ≡ record_at file i → p ≡ partly_by pages r → p ≤ 1
-        → Running (runs + p) (i + 1)
-    unfolding runs_partly records_from
-    running_next r p h er ep k =
-        let m : count - i ≡ suc (count - (i + 1)) = omega arith in
-        let s : runs + (partly_by pages (record_at file i) + runs_partly pages (records_from file (i + 1) (count - (i + 1))))
-        ≡ runs_partly pages (records_in file) = rw m at g.sum in
-        record { within = omega arith; few = omega (arith, g.few); sum = rw (ep, er) (omega arith) }
+    pub running_next : (r : Record) (us : List Record) (b : Bool) → ts ≡ r ∷ us → cond b 1 0 ≡ partly_by pages r → b ≡ true
+        → Running (runs + 1) us
+    unfolding runs_partly
+    running_next r us b e p t =
+        let f : runs + length (r ∷ us) ≤ length rs = rw e at g.few in
+        let s : runs + (partly_by pages r + runs_partly pages us) ≡ runs_partly pages rs = rw e at g.sum in
+        let one : 1 ≡ partly_by pages r = rw t at p in
+        record { few = omega arith; sum = omega arith }
+
+    pub running_past : (r : Record) (us : List Record) (b : Bool) → ts ≡ r ∷ us → cond b 1 0 ≡ partly_by pages r → b ≡ false
+        → Running runs us
+    unfolding runs_partly
+    running_past r us b e p t =
+        let f : runs + length (r ∷ us) ≤ length rs = rw e at g.few in
+        let s : runs + (partly_by pages r + runs_partly pages us) ≡ runs_partly pages rs = rw e at g.sum in
+        let none : 0 ≡ partly_by pages r = rw t at p in
+        record { few = omega arith; sum = omega arith }
+
+    -- the next one fits
+    pub running_fits : (r : Record) (us : List Record) (n : ℕ) → ts ≡ r ∷ us → length rs ≡ n → n < 2 ^ 64 → runs + 1 < 2 ^ 64
+    running_fits r us n e l h =
+        let f : runs + length (r ∷ us) ≤ length rs = rw e at g.few in
+        omega arith
 
     -- the end
-    pub running_done : count ≤ i → runs ≡ runs_partly pages (records_in file)
-    unfolding runs_partly records_from
-    running_done h =
-        let m : count - i ≡ 0 = omega arith in
-        rw (m, add-zero) at g.sum
+    pub running_done : ts ≡ [] → runs ≡ runs_partly pages rs
+    unfolding runs_partly
+    running_done e =
+        let s : runs + 0 ≡ runs_partly pages rs = rw e at g.sum in
+        omega arith
 
 -- ---- the pages below n
 
@@ -132,6 +143,11 @@ pub record Tally (rs : List Record) (pages dirty source none n : ℕ) : Type 0 w
   pub are_dirty : dirty ≡ pages_that is_dirty rs n
   pub are_source : source ≡ pages_that is_source rs n
   pub are_none : none ≡ pages_that is_left_out rs n
+
+ones : (t : Said) → (is_dirty t ≤ 1) × (is_source t ≤ 1) × (is_left_out t ≤ 1)
+ones LeftOut = (omega arith, omega arith, omega arith)
+ones (Source flag id address offset) = (omega arith, omega arith, omega arith)
+ones (Dirty flag) = (omega arith, omega arith, omega arith)
 
 -- one page more
 that_next : (counted : Said → ℕ) (rs : List Record) (n m d : ℕ) (t : Said) → t ≡ said_of rs n → d ≡ counted t
@@ -154,37 +170,17 @@ module _ (rs : List Record) (pages : ℕ) where
         are_none = refl;
       }
 
-  module _ (dirty source none n : ℕ) (g : Tally rs pages dirty source none n) where
+  module _ (dirty source none n : ℕ) (g : Tally rs pages dirty source none n) (h : n < pages) (t : Said) (e : t ≡ said_of rs n) where
     -- a turn: the next page
-    pub tally-next : (t : Said) (d s l : ℕ) → n < pages → t ≡ said_of rs n
-        → d ≡ is_dirty t
-        → d ≤ 1
-        → s ≡ is_source t
-        → s ≤ 1
-        → l ≡ is_left_out t
-        → l ≤ 1
-        → Tally rs pages (dirty + d) (source + s) (none + l) (n + 1)
-    tally-next t d s l h et ed kd es ks el kl =
+    pub tally_next : (d s m : ℕ) → d ≡ dirty + is_dirty t → s ≡ source + is_source t → m ≡ none + is_left_out t → Tally rs pages d s m (n + 1)
+    tally_next d s m ed es em =
+        let o : (is_dirty t ≤ 1) × (is_source t ≤ 1) × (is_left_out t ≤ 1) = ones t in
         record {
           within = omega arith;
-          few_dirty = omega (arith, g.few_dirty);
-          few_source = omega (arith, g.few_source);
-          few_none = omega (arith, g.few_none);
-          are_dirty = that_next is_dirty rs n dirty d t et ed g.are_dirty;
-          are_source = that_next is_source rs n source s t et es g.are_source;
-          are_none = that_next is_left_out rs n none l t et el g.are_none;
+          few_dirty = omega (arith, g.few_dirty, o.0);
+          few_source = omega (arith, g.few_source, o.1);
+          few_none = omega (arith, g.few_none, o.2);
+          are_dirty = ed ∙ that_next is_dirty rs n dirty (is_dirty t) t e refl g.are_dirty;
+          are_source = es ∙ that_next is_source rs n source (is_source t) t e refl g.are_source;
+          are_none = em ∙ that_next is_left_out rs n none (is_left_out t) t e refl g.are_none;
         }
-
-    -- the end
-    module _ (h : pages ≤ n) where
-      all : n ≡ pages
-      all = omega (arith, g.within)
-
-      pub tally-dirty : dirty ≡ pages_that is_dirty rs pages
-      tally-dirty = rw (← all) g.are_dirty
-
-      pub tally-source : source ≡ pages_that is_source rs pages
-      tally-source = rw (← all) g.are_source
-
-      pub tally-left-out : none ≡ pages_that is_left_out rs pages
-      tally-left-out = rw (← all) g.are_none

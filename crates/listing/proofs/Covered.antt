@@ -1,20 +1,18 @@
 -- What records say of a page: a run that covers it, one record, and the turns of going through them.
-use mathlib.Core.Path.{◌≡◌, sym, ap, ◌∙◌}
+use mathlib.Core.Path.{◌≡◌, refl, sym, ap, ◌∙◌}
 use mathlib.Core.Bool.{Bool, true, false, cond}
-use mathlib.Core.List.{List}
-use Prim.Native.Nat.{ℕ, suc, ◌+◌, ◌-◌, ◌*◌, ◌^◌, ◌≤◌, ◌<◌, min}
-use native.Mathlib.Nat.{sub-zero}
+use mathlib.Core.List.{List, [], ◌∷◌}
+use Prim.Native.Nat.{ℕ, ◌+◌, ◌-◌, ◌*◌, ◌^◌, ◌≤◌, ◌<◌, min}
 use native.Mathlib.Decide.{dec_le}
 use native.Mathlib.Omega.{arith}
 use lib.Dec.{leb}
 use borrow.Author.Tests.{le-leb, lt-leb}
 use Rattle.bits.specs.Rounding.{page_size}
-use Rattle.recordfile.specs.Records.{count_in, record_at, records_from, records_in}
 use Rattle.recordfile.specs.declared.Record.{Record}
 use Rattle.recordfile.specs.declared.Record.TheVariants as entry
 use Rattle.listing.specs.Pages.{most_pages, covers, said_by, last_said, said_of}
 use Rattle.listing.specs.declared.pages.Said.{Said}
-use Rattle.listing.specs.declared.pages.Said.TheVariants.{LeftOut, Source, Dirty}
+use Rattle.listing.specs.declared.pages.Said.TheVariants.{LeftOut, Dirty}
 
 -- two tests that hold together
 pub leb_same : (a b c d : ℕ) → (a ≤ b → c ≤ d) → (c ≤ d → a ≤ b) → leb a b ≡ leb c d
@@ -48,15 +46,6 @@ covers-capped address pages n h =
 -- ---- a record
 
 module _ (n : ℕ) (before : Said) (r : Record) (b : Bool) where
-  module _ (address flag id offset size : ℕ) (h : r ≡ entry.Source address flag id offset size) (e : b ≡ covers address size n) where
-    pub source-covers : b ≡ true → Source flag id address offset ≡ said_by n before r
-    unfolding said_by
-    source-covers t = rw (h, ← e, t)
-
-    pub source-past : b ≡ false → before ≡ said_by n before r
-    unfolding said_by
-    source-past t = rw (h, ← e, t)
-
   module _ (address flag pages place size : ℕ) (h : r ≡ entry.Dirty address flag pages place) (few : n < most_pages)
       (s : size ≡ min (pages * page_size) (2 ^ 64 - 1)) (e : b ≡ covers address size n) where
     same : b ≡ covers address (pages * page_size) n
@@ -70,43 +59,24 @@ module _ (n : ℕ) (before : Said) (r : Record) (b : Bool) where
     unfolding said_by
     dirty-past t = rw (h, ← same, t)
 
--- the others say nothing
-module _ (n : ℕ) (before : Said) (r : Record) where
-  pub state_silent : (a b c d e : ℕ) → r ≡ entry.State a b c d e → before ≡ said_by n before r
-  unfolding said_by
-  state_silent a b c d e h = rw h
+-- ---- the records that are left
 
-  pub registers_silent : (a b c d e : ℕ) → r ≡ entry.Registers a b c d e → before ≡ said_by n before r
-  unfolding said_by
-  registers_silent a b c d e h = rw h
-
-  pub bad_silent : r ≡ entry.Bad → before ≡ said_by n before r
-  unfolding said_by
-  bad_silent h = rw h
-
--- ---- the records from i on
-
-module _ (file : List ℕ) (n count : ℕ) where
+module _ (rs : List Record) (n : ℕ) where
   -- after what was said before them, they say what all do
-  pub record Saying (said : Said) (i : ℕ) : Type 0 where
-    pub within : i ≤ count
-    pub last : last_said n said (records_from file i (count - i)) ≡ said_of (records_in file) n
+  abbrev pub Saying : Said → List Record → Type 0
+  Saying said ts = last_said n said ts ≡ said_of rs n
 
-  pub saying_all : count ≡ count_in file → Saying LeftOut 0
+  pub saying_all : (ts : List Record) → ts ≡ rs → Saying LeftOut ts
   unfolding said_of
-  saying_all e = record { within = omega arith; last = rw (sub-zero, e) }
+  saying_all ts e = rw e refl
 
-  module _ (said : Said) (i : ℕ) (g : Saying said i) where
+  module _ (said : Said) (ts : List Record) (g : Saying said ts) where
     -- a turn: the next record
-    pub saying_next : (r : Record) (t : Said) → i < count → r ≡ record_at file i → t ≡ said_by n said r → Saying t (i + 1)
-    unfolding last_said records_from
-    saying_next r t h er et =
-        let m : count - i ≡ suc (count - (i + 1)) = omega arith in
-        record { within = omega arith; last = rw (et, er) (rw m at g.last) }
+    pub saying_next : (r : Record) (us : List Record) (t : Said) → ts ≡ r ∷ us → t ≡ said_by n said r → Saying t us
+    unfolding last_said
+    saying_next r us t e et = rw et (rw e at g)
 
     -- the end
-    pub saying_done : count ≤ i → said ≡ said_of (records_in file) n
-    unfolding last_said records_from
-    saying_done h =
-        let m : count - i ≡ 0 = omega arith in
-        rw m at g.last
+    pub saying_done : ts ≡ [] → said ≡ said_of rs n
+    unfolding last_said
+    saying_done e = rw e at g

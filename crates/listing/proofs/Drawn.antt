@@ -3,30 +3,26 @@ use mathlib.Core.Path.{◌≡◌}
 use mathlib.Core.List.{List, [], ◌∷◌}
 use Prim.Native.Nat.{ℕ, ◌+◌, ◌≤◌, ◌<◌}
 use native.Mathlib.Nat.{zero-add}
-use native.Mathlib.Omega.{arith}
 use lib.ListN.{length}
 use borrow.Author.Tests.{le-leb, lt-leb}
 use Rattle.words.specs.Bytes.{written}
-use Rattle.words.proofs.Written.{length-written, written_none}
+use Rattle.words.proofs.Written.{written_none}
 use Rattle.recordfile.specs.Records.{records_in}
 use Rattle.recordfile.specs.Form.{judged, capped}
 use Rattle.recordfile.specs.declared.Record.{Record}
-use Rattle.recordfile.specs.declared.form.Form as code-form
-use Rattle.recordfile.specs.declared.form.Form.TheVariants as code
+use Rattle.std.specs.Prelude.{Option, Ok, Err}
+use Rattle.outcome.specs.Numbers.{refusal_number}
+use Rattle.outcome.specs.declared.Refusal.{Refusal}
 use Rattle.listing.specs.Listing.{letter_e, line, output, laid}
 use Rattle.listing.specs.Texts.{rows, filled, Wrote}
 use Rattle.listing.specs.Pages.{most_pages, is_dirty, is_source, is_left_out, pages_that, runs_partly}
-use Rattle.listing.specs.Map.{height_of, frame, opened, numbers, closed, tiles, drawn, map, most_map, map_into}
+use Rattle.listing.specs.Map.{opened, numbers, closed, tiles, drawn, map, most_map, map_into}
 use Rattle.listing.proofs.Fixed.{joined}
-use Rattle.listing.proofs.Judged.{Formed, text-malformed, text-formed, inside-malformed}
+use Rattle.listing.proofs.Judged.{text-malformed, text-formed}
 
 -- ---- around the tiles
 
 module _ (s t : List ℕ) (at e pages : ℕ) where
-  pub opened_form : Wrote s at (filled (rows frame) (height_of pages ∷ height_of pages ∷ [])) t e → Wrote s at (opened pages) t e
-  unfolding opened
-  opened_form p = p
-
   pub closed_put : (rs : List Record) (dirty source none runs : ℕ) → dirty ≡ pages_that is_dirty rs pages
       → source ≡ pages_that is_source rs pages
       → none ≡ pages_that is_left_out rs pages
@@ -62,22 +58,16 @@ module _ (pages : ℕ) (file s : List ℕ) where
       unfolding map_into
       map-into = simp (le-leb pages most_pages few, le-leb most_map (length s) room)
 
-      module _ (t : List ℕ) (f : code-form.Form) (end : ℕ) (e : f ≡ capped (judged file)) where
+      module _ (t : List ℕ) (end : ℕ) where
         -- only `E 11`
-        pub map-malformed : f ≡ code.Malformed → t ≡ written s 0 (line letter_e (11 ∷ [])) → end ≡ 0 + length (line letter_e (11 ∷ []))
+        pub map-malformed : (r : Refusal) → Err r ≡ capped (judged file) → t ≡ written s 0 (line letter_e (refusal_number r ∷ []))
+            → end ≡ 0 + length (line letter_e (refusal_number r ∷ []))
             → output 0 end t ≡ laid s (map_into pages file (length s))
         unfolding map
-        map-malformed h w q = rw (map-into, text-malformed file f e (drawn pages (records_in file)) h, w, q, zero-add)
+        map-malformed r e w q = rw (map-into, text-malformed file r (drawn pages (records_in file)) e, w, q, zero-add)
 
-        pub map-formed : Formed f → Wrote s 0 (drawn pages (records_in file)) t end → output 0 end t ≡ laid s (map_into pages file (length s))
+        pub map-formed : (o : Option ℕ) → Ok o ≡ capped (judged file) → t ≡ written s 0 (drawn pages (records_in file))
+            → end ≡ 0 + length (drawn pages (records_in file))
+            → output 0 end t ≡ laid s (map_into pages file (length s))
         unfolding map
-        map-formed h w = rw (map-into, text-formed file f e h (drawn pages (records_in file)), w.holds, w.ends, zero-add)
-
--- the text lies inside the output
-pub inside-refused : (s t : List ℕ) (end : ℕ) → most_map ≤ length s → t ≡ written s 0 (line letter_e (11 ∷ []))
-    → end ≡ 0 + length (line letter_e (11 ∷ []))
-    → end ≤ length t
-inside-refused s t end room w q = inside-malformed s t end (omega arith) w q
-
-pub inside-drawn : (s t l : List ℕ) (end : ℕ) → most_map ≤ length s → Wrote s 0 l t end → end ≤ most_map → end ≤ length t
-inside-drawn s t l end room w q = rw (w.holds, length-written) (omega arith)
+        map-formed o e w q = rw (map-into, text-formed file o e (drawn pages (records_in file)), w, q, zero-add)

@@ -3,30 +3,47 @@ use mathlib.Core.Path.{◌≡◌, ap, sym, ◌∙◌}
 use mathlib.Core.List.{List}
 use Prim.Native.Nat.{ℕ}
 use lib.ListN.{length}
-use Rattle.outcome.specs.Numbers.{number_of}
+use Rattle.outcome.specs.Numbers.{Outcome, refusal_number}
 use Rattle.outcome.proofs.Numbers.{number_once}
-use Rattle.listing.specs.declared.Listed.{Listed}
-use Rattle.listing.specs.Listing.{Output, output, laid, list_into}
+use Rattle.std.specs.Prelude.{Result, Ok, Err}
+use Rattle.outcome.specs.declared.Refusal.{Refusal}
+use Rattle.listing.specs.Listing.{Output, told, laid, list_into}
 use Rattle.listing.specs.Map.{map_into}
 
-laid_once : (out : List ℕ) (w : ℕ × List ℕ) (r q : Listed) (t u : List ℕ)
-    → output (number_of r.outcome) r.size t ≡ laid out w
-    → output (number_of q.outcome) q.size u ≡ laid out w
-    → (r ≡ q) × (t ≡ u)
-laid_once out w r q t u e f =
-    let z : output (number_of r.outcome) r.size t ≡ output (number_of q.outcome) q.size u = e ∙ sym f in
-    let o : r.outcome ≡ q.outcome = number_once r.outcome q.outcome (ap (λ (y : Output). y.number) z) in
-    let s : r.size ≡ q.size = ap (λ (y : Output). y.size) z in
-    (λ i. record { outcome = o i; size = s i }, ap (λ (y : Output). y.bytes) z)
+-- a number is no refusal
+never : (x : Refusal) → 0 ≡ refusal_number x → ⊥
+never x e = let z : Ok tt ≡ Err x = number_once (Ok tt) (Err x) e in absurd cc
 
-pub list_once : (file out : List ℕ) (r q : Listed) (t u : List ℕ)
-    → output (number_of r.outcome) r.size t ≡ laid out (list_into file (length out))
-    → output (number_of q.outcome) q.size u ≡ laid out (list_into file (length out))
+told_once : (r q : Result ℕ Refusal) (t u : List ℕ) → told r t ≡ told q u → r ≡ q
+told_once (Ok n) (Ok m) t u z = ap (λ (y : Output). Ok y.size) z
+told_once (Ok n) (Err y) t u z = absurd (never y (ap (λ (o : Output). o.number) z))
+told_once (Err x) (Ok m) t u z = absurd (never x (sym (ap (λ (o : Output). o.number) z)))
+told_once (Err x) (Err y) t u z = ap back (number_once (Err x) (Err y) (ap (λ (o : Output). o.number) z))
+  where
+    back : Outcome → Result ℕ Refusal
+    back (Ok _) = Ok 0
+    back (Err w) = Err w
+
+told_bytes : (r q : Result ℕ Refusal) (t u : List ℕ) → told r t ≡ told q u → t ≡ u
+told_bytes (Ok n) (Ok m) t u z = ap (λ (y : Output). y.bytes) z
+told_bytes (Ok n) (Err y) t u z = ap (λ (y : Output). y.bytes) z
+told_bytes (Err x) (Ok m) t u z = ap (λ (y : Output). y.bytes) z
+told_bytes (Err x) (Err y) t u z = ap (λ (y : Output). y.bytes) z
+
+laid_once : (out : List ℕ) (w : ℕ × List ℕ) (r q : Result ℕ Refusal) (t u : List ℕ)
+    → told r t ≡ laid out w
+    → told q u ≡ laid out w
+    → (r ≡ q) × (t ≡ u)
+laid_once out w r q t u e f = let z : told r t ≡ told q u = e ∙ sym f in (told_once r q t u z, told_bytes r q t u z)
+
+pub list_once : (file out : List ℕ) (r q : Result ℕ Refusal) (t u : List ℕ)
+    → told r t ≡ laid out (list_into file (length out))
+    → told q u ≡ laid out (list_into file (length out))
     → (r ≡ q) × (t ≡ u)
 list_once file out = laid_once out (list_into file (length out))
 
-pub draw_once : (file out : List ℕ) (pages : ℕ) (r q : Listed) (t u : List ℕ)
-    → output (number_of r.outcome) r.size t ≡ laid out (map_into pages file (length out))
-    → output (number_of q.outcome) q.size u ≡ laid out (map_into pages file (length out))
+pub draw_once : (file out : List ℕ) (pages : ℕ) (r q : Result ℕ Refusal) (t u : List ℕ)
+    → told r t ≡ laid out (map_into pages file (length out))
+    → told q u ≡ laid out (map_into pages file (length out))
     → (r ≡ q) × (t ≡ u)
 draw_once file out pages = laid_once out (map_into pages file (length out))

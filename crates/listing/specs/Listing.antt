@@ -1,6 +1,8 @@
 -- The text of a record file: "The program `snaplist` .. prints decimals: `M` with words 1 to 5 of kind 1; `S` with words 1 to 5 of
 -- each source run; `D` with words 1 to 4 of each dirty run; or only `E 11`."
-use Rattle.std.specs.Prelude.{cond, List, [], ◌∷◌, ◌++◌, ℕ, ◌+◌, ◌*◌, length, leb}
+use Rattle.std.specs.Prelude.{cond, List, [], ◌∷◌, ◌++◌, ℕ, ◌+◌, ◌*◌, length, leb, Result, Ok, Err}
+use Rattle.outcome.specs.Numbers.{refusal_number}
+use Rattle.outcome.specs.declared.Refusal.{Refusal}
 use Rattle.words.specs.Bytes.{written}
 use Rattle.recordfile.specs.Records.{records_in}
 use Rattle.recordfile.specs.Form.{Form, malformed, needs, judged, most_records}
@@ -80,6 +82,11 @@ pub record Output : Type 0 where
 
 abbrev pub output : ℕ → ℕ → List ℕ → Output
 output number size bytes = record { number = number; size = size; bytes = bytes }
+
+-- what a call answered: its number and its size; a refused call gives 0 for that
+abbrev pub told : Result ℕ Refusal → List ℕ → Output
+told (Ok size) bytes = output 0 size bytes
+told (Err refusal) bytes = output (refusal_number refusal) 0 bytes
 
 -- the number and the text of a file, for an output of so many bytes; "a lent output is too short": 8, and no text
 unfoldable pub list_into : List ℕ → ℕ → ℕ × List ℕ

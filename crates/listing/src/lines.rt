@@ -1,69 +1,22 @@
-// Lines in bytes.
-ghost use Rattle.std.specs.Prelude.{◌≡◌, ◌+◌, ◌*◌, ◌≤◌, ◌∷◌, length, take};
-ghost use Rattle.words.specs.Bytes.{written};
+// The lines of records.
+ghost use Rattle.std.specs.Prelude.{◌≡◌, ◌+◌, ◌≤◌};
 ghost use Rattle.recordfile.specs.Records.{count_in, records_in};
 ghost use Rattle.recordfile.specs.Form.{most_records};
-ghost use Rattle.listing.specs.Decimals.{decimal};
-ghost use Rattle.listing.specs.Listing.{space, spaced, line, line_of, lines, most_numbers, most_spaced, most_line, most_text};
+ghost use Rattle.listing.specs.Listing.{line_of, lines, most_line, most_text};
+ghost use Rattle.listing.specs.Writer.{Adds, Room, SameOutput};
 
-use super::decimals;
-use recordfile::{RECORD_BYTES, Record};
-
-// The most numbers of a line.
-pub const MOST_NUMBERS: usize = 5;
-
-// A number after a space, written from a byte on; answers where it ends.
-fn put_spaced(out: &mut [u8], at: usize, n: u64) -> usize
-    requires { at + most_spaced ≤ length out.old }
-    ensures out_after { out.new ≡ written out.old at (space ∷ decimal n) }
-    ensures value { result ≡ at + length (space ∷ decimal n) }
-{
-    out[at] = b' ';
-    decimals::put_decimal(out, at + 1, n)
-}
-
-// The first so many numbers, each after a space.
-fn put_numbers(out: &mut [u8], at: usize, numbers: [u64; MOST_NUMBERS], count: usize) -> usize
-    requires count_le_most_numbers { count ≤ most_numbers }
-    requires most_spaced_in_bounds { at + count * most_spaced ≤ length out.old }
-    ensures out_after { out.new ≡ written out.old at (spaced (take count numbers)) }
-    ensures value { result ≡ at + length (spaced (take count numbers)) }
-    ensures upper_bound { result ≤ at + count * most_spaced }
-{
-    let mut end = at;
-    let mut i: usize = 0;
-    while i < count {
-        end = put_spaced(out, end, numbers[i]);
-        i += 1;
-    }
-    end
-}
-
-// A line: a letter, and numbers.
-pub fn put_line(
-    out: &mut [u8],
-    at: usize,
-    letter: u8,
-    numbers: [u64; MOST_NUMBERS],
-    count: usize,
-) -> usize
-    requires count_le_most_numbers { count ≤ most_numbers }
-    requires most_line_in_bounds { at + most_line ≤ length out.old }
-    ensures out_after { out.new ≡ written out.old at (line letter (take count numbers)) }
-    ensures value { result ≡ at + length (line letter (take count numbers)) }
-{
-    out[at] = letter;
-    let end = put_numbers(out, at + 1, numbers, count);
-    out[end] = b'\n';
-    end + 1
-}
+use super::writer::Writer;
+use recordfile::Record;
+use recordfile::reader::Reader;
 
 // The line of a record, where it has one.
-pub fn put_record(out: &mut [u8], at: usize, entry: Record) -> usize
-    requires { at + most_line ≤ length out.old }
-    ensures out_after { out.new ≡ written out.old at (line_of entry) }
-    ensures value { result ≡ at + length (line_of entry) }
+#[tactic(auto, using(crate::proofs::Fixed::nothing_put), unfolding(crate::specs::Listing::line_of))]
+fn put_record(text: &mut Writer, entry: Record)
+    requires { Room text.old most_line }
+    ensures wrote { Adds text.old text.new (line_of entry) }
+    ensures same { SameOutput text.old text.new }
 {
+    // A match has each kind's fields by name; a table of calls would hand them on as numbers.
     match entry {
         Record::State {
             version,
@@ -71,12 +24,9 @@ pub fn put_record(out: &mut [u8], at: usize, entry: Record) -> usize
             cycles,
             maximum,
             reservation,
-        } => put_line(
-            out,
-            at,
+        } => text.line(
             b'M',
-            [version as u64, pc, cycles, maximum, reservation],
-            5,
+            &[u64::from(version), pc, cycles, maximum, reservation],
         ),
         Record::Source {
             address,
@@ -84,38 +34,26 @@ pub fn put_record(out: &mut [u8], at: usize, entry: Record) -> usize
             id,
             offset,
             size,
-        } => put_line(out, at, b'S', [address, flag as u64, id, offset, size], 5),
+        } => text.line(b'S', &[address, u64::from(flag), id, offset, size]),
         Record::Dirty {
             address,
             flag,
             pages,
             place,
-        } => put_line(out, at, b'D', [address, flag as u64, pages, place, 0], 4),
-        Record::Registers {
-            first: _,
-            one: _,
-            two: _,
-            three: _,
-            four: _,
-        } => at,
-        Record::Bad => at,
+        } => text.line(b'D', &[address, u64::from(flag), pages, place]),
+        Record::Registers { .. } | Record::Bad => {}
     }
 }
 
-// The lines of a file's records, from the front on.
-pub fn put_records(file: &[u8], out: &mut [u8]) -> usize
+// The lines of a file's records.
+pub fn put_records(text: &mut Writer, file: &[u8])
     requires file_bound { count_in file.now ≤ most_records }
-    requires most_text_in_bounds { most_text ≤ length out.old }
-    ensures out_after { out.new ≡ written out.old 0 (lines (records_in file.now)) }
-    ensures value { result ≡ length (lines (records_in file.now)) }
-    ensures upper_bound { result ≤ most_text }
+    requires room { Room text.old most_text }
+    ensures wrote { Adds text.old text.new (lines (records_in file.now)) }
+    ensures same { SameOutput text.old text.new }
+    ensures upper_bound { text.new.end ≤ text.old.end + most_text }
 {
-    let count = file.len() / RECORD_BYTES;
-    let mut end: usize = 0;
-    let mut i: usize = 0;
-    while i < count {
-        end = put_record(out, end, recordfile::reader::read_at(file, i));
-        i += 1;
+    for entry in Reader::new(file) {
+        put_record(text, entry);
     }
-    end
 }

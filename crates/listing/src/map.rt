@@ -1,20 +1,20 @@
 // The map of a snapshot's memory, from its record file: an SVG 1.1 picture with a tile for each page.
 //
 // The picture is `map` (specs/Map.antt): how high it is, the frame with its legend, the tiles, the numbers.
-ghost use Rattle.std.specs.Prelude.{◌≡◌, ◌∷◌, [], ◌+◌, ◌≤◌, length};
-ghost use Rattle.outcome.specs.Numbers.{number_of};
+ghost use Rattle.std.specs.Prelude.{◌≡◌, ◌∷◌, [], ◌+◌, ◌≤◌, length, IfOk};
 ghost use Rattle.recordfile.specs.Records.{records_in};
-ghost use Rattle.listing.specs.Listing.{output, laid};
-ghost use Rattle.listing.specs.Texts.{rows, filled, Wrote};
+ghost use Rattle.listing.specs.Listing.{told, laid};
+ghost use Rattle.listing.specs.Texts.{rows, filled};
+ghost use Rattle.listing.specs.Writer.{Adds, Room, SameOutput};
 ghost use Rattle.listing.specs.Pages.{most_pages};
 ghost use Rattle.listing.specs.Map.{opened, numbers, closed, drawn, map_into, most_frame, most_map};
 
-use super::forms::put_form;
-use super::pages::Counts;
+use super::pages::{Counts, Picture};
 use super::tiles::{MOST_TILE, ROW_TILES};
-use super::{Listed, MOST_PAGES, lines, pages, tiles};
-use outcome::Outcome;
-use recordfile::form::Form;
+use super::writer::Writer;
+use super::{MOST_PAGES, put_refusal, tiles};
+use outcome::Refusal;
+use recordfile::form::judge;
 
 // The height of what stands above the tiles, of a row, and of the margin below.
 const TOP: u64 = 160;
@@ -30,16 +30,15 @@ const MOST_FRAME: usize = 2048;
 pub const MOST_MAP: usize = MOST_FRAME + MOST_PAGES as usize * MOST_TILE + MOST_FRAME;
 
 // What stands before the tiles.
-fn put_opened(out: &mut [u8], at: usize, pages: u64) -> usize
-    requires pages_le_most_pages { pages ≤ most_pages }
-    requires most_frame_in_bounds { at + most_frame ≤ length out.old }
-    ensures wrote { Wrote out.old at (opened pages) out.new result }
-    ensures upper_bound { result ≤ at + most_frame }
+#[tactic(auto, unfolding(crate::specs::Map::opened, crate::specs::Map::frame, crate::specs::Texts::rows, crate::specs::Texts::text))]
+fn put_opened(text: &mut Writer, picture: Picture)
+    requires { Room text.old most_frame }
+    ensures wrote { Adds text.old text.new (opened picture.entry.pages) }
+    ensures same { SameOutput text.old text.new }
+    ensures upper_bound { text.new.end ≤ text.old.end + most_frame }
 {
-    let height = TOP + ROW * ((pages + (ROW_TILES - 1)) / ROW_TILES) + MARGIN;
-    put_form(
-        out,
-        at,
+    let height = TOP + ROW * ((picture.pages + (ROW_TILES - 1)) / ROW_TILES) + MARGIN;
+    text.form(
         b"<svg xmlns='http://www.w3.org/2000/svg' version='1.1' width='600' height='@' viewBox='0 0 600 @'>\n\
           <title>Memory map of a snapshot</title>\n\
           <style type='text/css'>\n\
@@ -75,20 +74,19 @@ fn put_opened(out: &mut [u8], at: usize, pages: u64) -> usize
           <rect width='.9' height='.9' x='0' y='2' class='out'/>\n\
           </g>\n\
           <g id='pages' transform='translate(12,160) scale(18)'>\n",
-        [height, height, 0, 0, 0, 0, 0, 0],
-        2,
+        &[height, height],
     )
 }
 
 // The numbers, and the picture's end.
-fn put_numbers(out: &mut [u8], at: usize, pages: u64, counts: Counts, runs: u64) -> usize
-    requires { at + most_frame ≤ length out.old }
-    ensures wrote { Wrote out.old at (filled (rows numbers) (pages ∷ counts.dirty ∷ counts.source ∷ counts.none ∷ runs ∷ [])) out.new result }
-    ensures upper_bound { result ≤ at + most_frame }
+#[tactic(auto, unfolding(crate::specs::Map::numbers, crate::specs::Texts::rows, crate::specs::Texts::text))]
+fn put_numbers(text: &mut Writer, pages: u64, counts: Counts, runs: u64)
+    requires { Room text.old most_frame }
+    ensures wrote { Adds text.old text.new (filled (rows numbers) (pages ∷ counts.dirty ∷ counts.source ∷ counts.none ∷ runs ∷ [])) }
+    ensures same { SameOutput text.old text.new }
+    ensures upper_bound { text.new.end ≤ text.old.end + most_frame }
 {
-    put_form(
-        out,
-        at,
+    text.form(
         b"</g>\n\
           <text class='count' x='230' y='56'>@</text>\n\
           <text class='count' x='230' y='74'>@</text>\n\
@@ -96,69 +94,50 @@ fn put_numbers(out: &mut [u8], at: usize, pages: u64, counts: Counts, runs: u64)
           <text class='count' x='230' y='110'>@</text>\n\
           <text class='count' x='230' y='128'>@</text>\n\
           </svg>\n",
-        [
-            pages,
-            counts.dirty,
-            counts.source,
-            counts.none,
-            runs,
-            0,
-            0,
-            0,
-        ],
-        5,
+        &[pages, counts.dirty, counts.source, counts.none, runs],
     )
 }
 
 // What stands after the tiles.
-fn put_closed(file: &[u8], out: &mut [u8], at: usize, pages: u64) -> usize
-    requires pages_le_most_pages { pages ≤ most_pages }
-    requires most_frame_in_bounds { at + most_frame ≤ length out.old }
-    ensures wrote { Wrote out.old at (closed pages (records_in file.now)) out.new result }
-    ensures upper_bound { result ≤ at + most_frame }
+fn put_closed(text: &mut Writer, picture: Picture)
+    requires { Room text.old most_frame }
+    ensures wrote { Adds text.old text.new (closed picture.entry.pages (records_in picture.entry.file.now)) }
+    ensures same { SameOutput text.old text.new }
+    ensures upper_bound { text.new.end ≤ text.old.end + most_frame }
 {
-    let counts = pages::count_pages(file, pages);
-    let runs = pages::count_partly(file, pages);
-    put_numbers(out, at, pages, counts, runs)
+    let counts = picture.count_pages();
+    let runs = picture.count_partly();
+    put_numbers(text, picture.pages, counts, runs);
 }
 
 // The picture.
-fn put_map(file: &[u8], out: &mut [u8], pages: u64) -> usize
-    requires pages_le_most_pages { pages ≤ most_pages }
-    requires most_map_in_bounds { most_map ≤ length out.old }
-    ensures wrote { Wrote out.old 0 (drawn pages (records_in file.now)) out.new result }
-    ensures upper_bound { result ≤ most_map }
+fn put_map(text: &mut Writer, picture: Picture)
+    requires { Room text.old most_map }
+    ensures wrote { Adds text.old text.new (drawn picture.entry.pages (records_in picture.entry.file.now)) }
+    ensures same { SameOutput text.old text.new }
+    ensures upper_bound { text.new.end ≤ text.old.end + most_map }
 {
-    let opened = put_opened(out, 0, pages);
-    let tiled = tiles::put_tiles(file, out, opened, pages);
-    put_closed(file, out, tiled, pages)
+    put_opened(text, picture);
+    tiles::put_tiles(text, picture);
+    put_closed(text, picture);
 }
 
-// The map of a record file for a machine of so many pages, at the front of a lent output.
-pub fn draw(file: &[u8], out: &mut [u8], pages: u64) -> Listed
-    ensures out_after { output (number_of result.outcome) result.size out.new ≡ laid out.old (map_into pages file.now (length out.old)) }
-    ensures size_in_bounds { result.size ≤ length out.new }
+// The map of a record file for a machine of so many pages, at the front of a lent output; answers its size.
+pub fn draw(file: &[u8], out: &mut [u8], pages: u64) -> Result<usize, Refusal>
+    ensures out_after { told result out.new ≡ laid out.old (map_into pages file.now (length out.old)) }
+    ensures size_in_bounds { IfOk result (λ size. size ≤ length out.new) }
 {
     if MOST_PAGES < pages {
-        return Listed {
-            outcome: Outcome::BadStorage,
-            size: 0,
-        };
+        return Err(Refusal::BadStorage);
     }
     if out.len() < MOST_MAP {
-        return Listed {
-            outcome: Outcome::OutputTooShort,
-            size: 0,
-        };
+        return Err(Refusal::OutputTooShort);
     }
-    if let Form::Malformed = recordfile::form::judge(file) {
-        return Listed {
-            outcome: Outcome::Done,
-            size: lines::put_line(out, 0, b'E', [11, 0, 0, 0, 0], 1),
-        };
+    let mut text = Writer { out, end: 0 };
+    if let Err(refusal) = judge(file) {
+        put_refusal(&mut text, refusal);
+        return Ok(text.end);
     }
-    Listed {
-        outcome: Outcome::Done,
-        size: put_map(file, out, pages),
-    }
+    put_map(&mut text, Picture { file, pages });
+    Ok(text.end)
 }

@@ -1,16 +1,34 @@
 // What a record file says of a machine's pages, and how many of each kind there are.
-ghost use Rattle.std.specs.Prelude.{◌≡◌, ◌*◌, ◌-◌, ◌^◌, ◌≤◌, ◌<◌, min};
+ghost use Rattle.std.specs.Prelude.{◌≡◌, cond, ◌*◌, ◌-◌, ◌^◌, ◌≤◌, ◌<◌, min};
 ghost use Rattle.bits.specs.Rounding.{page_size};
 ghost use Rattle.recordfile.specs.Records.{records_in};
 ghost use Rattle.listing.specs.Pages.{most_pages, covers as covers_page, said_by, said_of, is_dirty, is_source, is_left_out, pages_that, partly as partly_drawn, partly_by, runs_partly};
 
 use bits::RISCV_PAGESIZE;
-use recordfile::{RECORD_BYTES, Record};
+use recordfile::Record;
+use recordfile::reader::Reader;
 
-// The bytes of a page.
-pub const PAGE_BYTES: u64 = RISCV_PAGESIZE as u64;
+// The bytes of a page: bits' number, as a number of 64 bits: a cast at each use is no plainer.
+const PAGE_BYTES: u64 = RISCV_PAGESIZE as u64;
 
-// What a file says of a page: nothing; a source's, by a run with these numbers; or dirty.
+// A page of a machine, by its number.
+#[derive(Clone, Copy)]
+pub struct Page {
+    pub number: u64,
+    ghost few: { number < most_pages },
+}
+
+impl Page {
+    // The address of its first byte.
+    pub fn start(self) -> u64
+        ensures { result ≡ self.number * page_size }
+    {
+        self.number * PAGE_BYTES
+    }
+}
+
+// What a file says of a page: nothing; a source's, by a run with these numbers; or dirty. Not an Option: specs/Pages and Map
+// speak of `LeftOut`.
 #[derive(Clone, Copy)]
 pub enum Said {
     LeftOut,
@@ -25,6 +43,14 @@ pub enum Said {
     },
 }
 
+// A record file, to be drawn on so many pages.
+#[derive(Clone, Copy)]
+pub struct Picture<'a> {
+    pub file: &'a [u8],
+    pub pages: u64,
+    ghost few: { pages ≤ most_pages },
+}
+
 // How many pages are dirty, from a source, left out.
 #[derive(Clone, Copy)]
 pub struct Counts {
@@ -34,11 +60,10 @@ pub struct Counts {
 }
 
 // Whether a run of so many bytes covers a page.
-fn covers(address: u64, size: u64, page: u64) -> bool
-    requires { page < most_pages }
-    ensures { result ≡ covers_page address size page }
+fn covers(address: u64, size: u64, page: Page) -> bool
+    ensures { result ≡ covers_page address size page.number }
 {
-    let start = page * PAGE_BYTES;
+    let start = page.start();
     if start < address {
         return false;
     }
@@ -49,16 +74,13 @@ fn covers(address: u64, size: u64, page: u64) -> bool
 fn bytes_of(pages: u64) -> u64
     ensures { result ≡ min (pages * page_size) (2 ^ 64 - 1) }
 {
-    if u64::MAX / PAGE_BYTES < pages {
-        return u64::MAX;
-    }
-    pages * PAGE_BYTES
+    pages.saturating_mul(PAGE_BYTES)
 }
 
 // What a record says of a page, or else what was said before.
-fn said_by(page: u64, before: Said, entry: Record) -> Said
-    requires { page < most_pages }
-    ensures { result ≡ said_by page before entry }
+#[tactic(auto, unfolding(crate::specs::Pages::said_by))]
+fn said_by(page: Page, before: Said, entry: Record) -> Said
+    ensures { result ≡ said_by page.number before entry }
 {
     match entry {
         Record::Source {
@@ -67,205 +89,96 @@ fn said_by(page: u64, before: Said, entry: Record) -> Said
             id,
             offset,
             size,
-        } => {
-            if covers(address, size, page) {
-                return Said::Source {
-                    flag,
-                    id,
-                    address,
-                    offset,
-                };
-            }
-            before
-        }
+        } if covers(address, size, page) => Said::Source {
+            flag,
+            id,
+            address,
+            offset,
+        },
         Record::Dirty {
             address,
             flag,
             pages,
-            place: _,
-        } => {
-            if covers(address, bytes_of(pages), page) {
-                return Said::Dirty { flag };
-            }
-            before
-        }
-        Record::State {
-            version: _,
-            pc: _,
-            cycles: _,
-            maximum: _,
-            reservation: _,
-        } => before,
-        Record::Registers {
-            first: _,
-            one: _,
-            two: _,
-            three: _,
-            four: _,
-        } => before,
-        Record::Bad => before,
+            ..
+        } if covers(address, bytes_of(pages), page) => Said::Dirty { flag },
+        _ => before,
     }
 }
 
 // What a file says of a page.
-pub fn said_of(file: &[u8], page: u64) -> Said
-    requires { page < most_pages }
-    ensures { result ≡ said_of (records_in file.now) page }
+pub fn said_of(file: &[u8], page: Page) -> Said
+    ensures { result ≡ said_of (records_in file.now) page.number }
 {
-    let count = file.len() / RECORD_BYTES;
     let mut said = Said::LeftOut;
-    let mut i: usize = 0;
-    while i < count {
-        said = said_by(page, said, recordfile::reader::read_at(file, i));
-        i += 1;
+    for entry in Reader::new(file) {
+        said = said_by(page, said, entry);
     }
     said
 }
 
-fn is_dirty(said: Said) -> u64
-    ensures value { result ≡ is_dirty said }
-    ensures upper_bound { result ≤ 1 }
-{
-    match said {
-        Said::LeftOut => 0,
-        Said::Source {
-            flag: _,
-            id: _,
-            address: _,
-            offset: _,
-        } => 0,
-        Said::Dirty { flag: _ } => 1,
+impl<'a> Picture<'a> {
+    // How many of its pages are dirty, from a source, left out.
+    pub fn count_pages(self) -> Counts
+        ensures dirty_value { result.dirty ≡ pages_that is_dirty (records_in self.entry.file.now) self.entry.pages }
+        ensures source_value { result.source ≡ pages_that is_source (records_in self.entry.file.now) self.entry.pages }
+        ensures none_value { result.none ≡ pages_that is_left_out (records_in self.entry.file.now) self.entry.pages }
+    {
+        let mut counts = Counts {
+            dirty: 0,
+            source: 0,
+            none: 0,
+        };
+        for number in 0..self.pages {
+            match said_of(self.file, Page { number }) {
+                Said::Dirty { .. } => counts.dirty += 1,
+                Said::Source { .. } => counts.source += 1,
+                Said::LeftOut => counts.none += 1,
+            }
+        }
+        counts
     }
-}
 
-fn is_source(said: Said) -> u64
-    ensures value { result ≡ is_source said }
-    ensures upper_bound { result ≤ 1 }
-{
-    match said {
-        Said::LeftOut => 0,
-        Said::Source {
-            flag: _,
-            id: _,
-            address: _,
-            offset: _,
-        } => 1,
-        Said::Dirty { flag: _ } => 0,
+    // Whether a run of so many bytes is not drawn whole.
+    fn partly(self, address: u64, size: u64) -> bool
+        ensures { cond result 1 0 ≡ partly_drawn self.entry.pages address size }
+    {
+        let end = self.pages * PAGE_BYTES;
+        if address % PAGE_BYTES != 0 {
+            return true;
+        }
+        if size % PAGE_BYTES != 0 {
+            return true;
+        }
+        if end < address {
+            return true;
+        }
+        if end - address < size {
+            return true;
+        }
+        false
     }
-}
 
-fn is_left_out(said: Said) -> u64
-    ensures value { result ≡ is_left_out said }
-    ensures upper_bound { result ≤ 1 }
-{
-    match said {
-        Said::LeftOut => 1,
-        Said::Source {
-            flag: _,
-            id: _,
-            address: _,
-            offset: _,
-        } => 0,
-        Said::Dirty { flag: _ } => 0,
+    // The same for a record.
+    fn partly_by(self, entry: Record) -> bool
+        ensures { cond result 1 0 ≡ partly_by self.entry.pages entry }
+    {
+        match entry {
+            Record::Source { address, size, .. } => self.partly(address, size),
+            Record::Dirty { address, pages, .. } => self.partly(address, bytes_of(pages)),
+            _ => false,
+        }
     }
-}
 
-// How many of so many pages are dirty, from a source, left out.
-pub fn count_pages(file: &[u8], pages: u64) -> Counts
-    requires { pages ≤ most_pages }
-    ensures dirty_value { result.dirty ≡ pages_that is_dirty (records_in file.now) pages }
-    ensures source_value { result.source ≡ pages_that is_source (records_in file.now) pages }
-    ensures none_value { result.none ≡ pages_that is_left_out (records_in file.now) pages }
-{
-    let mut dirty: u64 = 0;
-    let mut source: u64 = 0;
-    let mut none: u64 = 0;
-    let mut page: u64 = 0;
-    while page < pages {
-        let said = said_of(file, page);
-        dirty += is_dirty(said);
-        source += is_source(said);
-        none += is_left_out(said);
-        page += 1;
+    // How many runs of its file are not drawn whole.
+    pub fn count_partly(self) -> u64
+        ensures { result ≡ runs_partly self.entry.pages (records_in self.entry.file.now) }
+    {
+        let mut runs = 0;
+        for entry in Reader::new(self.file) {
+            if self.partly_by(entry) {
+                runs += 1;
+            }
+        }
+        runs
     }
-    Counts {
-        dirty,
-        source,
-        none,
-    }
-}
-
-// 1 for a run of so many bytes that is not drawn whole on so many pages, else 0.
-fn partly(pages: u64, address: u64, size: u64) -> u64
-    requires { pages ≤ most_pages }
-    ensures value { result ≡ partly_drawn pages address size }
-    ensures upper_bound { result ≤ 1 }
-{
-    let end = pages * PAGE_BYTES;
-    if address % PAGE_BYTES != 0 {
-        return 1;
-    }
-    if size % PAGE_BYTES != 0 {
-        return 1;
-    }
-    if end < address {
-        return 1;
-    }
-    if end - address < size {
-        return 1;
-    }
-    0
-}
-
-// The same for a record.
-fn partly_by(pages: u64, entry: Record) -> u64
-    requires { pages ≤ most_pages }
-    ensures value { result ≡ partly_by pages entry }
-    ensures upper_bound { result ≤ 1 }
-{
-    match entry {
-        Record::Source {
-            address,
-            flag: _,
-            id: _,
-            offset: _,
-            size,
-        } => partly(pages, address, size),
-        Record::Dirty {
-            address,
-            flag: _,
-            pages: count,
-            place: _,
-        } => partly(pages, address, bytes_of(count)),
-        Record::State {
-            version: _,
-            pc: _,
-            cycles: _,
-            maximum: _,
-            reservation: _,
-        } => 0,
-        Record::Registers {
-            first: _,
-            one: _,
-            two: _,
-            three: _,
-            four: _,
-        } => 0,
-        Record::Bad => 0,
-    }
-}
-
-// How many runs of a file are not drawn whole on so many pages.
-pub fn count_partly(file: &[u8], pages: u64) -> u64
-    requires { pages ≤ most_pages }
-    ensures { result ≡ runs_partly pages (records_in file.now) }
-{
-    let count = file.len() / RECORD_BYTES;
-    let mut runs: u64 = 0;
-    let mut i: usize = 0;
-    while i < count {
-        runs += partly_by(pages, recordfile::reader::read_at(file, i));
-        i += 1;
-    }
-    runs
 }

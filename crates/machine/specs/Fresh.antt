@@ -1,12 +1,15 @@
 -- A fresh machine: its lent storage, the records of its pages with it, and its numbers.
-use Rattle.std.specs.Prelude.{Bool, cond, List, ℕ, ◌*◌, ◌/◌, length, eqb}
+use Rattle.std.specs.Prelude.{Bool, cond, List, ℕ, ◌*◌, ◌/◌, length, eqb, Result, Ok, Err}
 use Rattle.bits.specs.Rounding.{page_size}
-use Rattle.outcome.specs.Numbers.{number_of}
+use Rattle.outcome.specs.Numbers.{refusal_number}
+use Rattle.outcome.specs.declared.Refusal.{Refusal}
 use Rattle.words.specs.Bytes.{filled}
 use Rattle.memory.specs.Storage.{State, state_of, no_memory}
 use Rattle.memory.specs.Storage as memory
+use Rattle.memory.specs.Lent.{seen}
+use Rattle.memory.specs.declared.storage.Storage.{Storage}
 use Rattle.machine.specs.Numbers.{Numbers, numbers_of, fresh_numbers, no_numbers}
-use Rattle.machine.specs.declared.Answer.{Answer}
+use Rattle.machine.specs.declared.Machine.{Machine}
 
 -- a page's record is three words: id, offset, mark (reading 3)
 abbrev pub record_words : ℕ
@@ -38,7 +41,7 @@ fresh slots flags area records size version maximum =
     (fresh_over (memory.fresh slots flags area size) records version maximum)
     (9, ((state_of slots flags area no_memory, records), no_numbers))
 
--- the number that a call answered, and the machine that it left
-abbrev pub answered : Answer → List ℕ → List ℕ → List ℕ → List ℕ → ℕ × LentMachine
-answered r slots flags area records =
-    (number_of r.outcome, ((state_of slots flags area r.machine.memory, records), numbers_of r.machine))
+-- the number that a fresh machine was answered with, and what was left; "A refused call gives 0 for each number"
+abbrev pub made : Result Machine Refusal → Storage → List ℕ → ℕ × LentMachine
+made (Ok m) s records = (0, ((seen s m.memory, records), numbers_of m))
+made (Err e) s records = (refusal_number e, ((seen s no_memory, records), no_numbers))

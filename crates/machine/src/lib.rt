@@ -1,7 +1,7 @@
 // The machine: registers, pc and pending pc, version, cycles and their maximum, above its memory: machine/mod.rs, cut.
 //
-// Document 01, the machine's row of "What is ported". A machine goes in by value, as `self` or `mut self`, and comes back whole;
-// nothing of it is held elsewhere. Its memory is W^X over sparse memory: a call on it takes `memory()` and what is lent, and
+// Document 01, the machine's row of "What is ported". A machine goes in by value, as `self` or `mut self`, and comes back whole, on
+// a refusal too; nothing of it is held elsewhere. Its memory is W^X over sparse memory: a call on it takes `memory()` and what is lent, and
 // `with_memory` takes back what such a call answered. A fresh machine also has every page's record untracked.
 //
 // What each method answers and leaves is a definition of specs/Numbers.antt; what `fresh` does is one of specs/Fresh.antt.
@@ -11,16 +11,19 @@ ghost use Rattle.std.specs.Prelude.{◌≡◌, ◌/◌, length};
 ghost use Rattle.outcome.specs.Numbers.{number_of};
 ghost use Rattle.words.specs.Bytes.{filled};
 ghost use Rattle.memory.specs.Answers.{value_of};
+ghost use Rattle.memory.specs.Lent.{SameSlices};
 ghost use Rattle.machine.specs.Numbers.{numbers_of, machine_of, fresh_numbers, with_registers, register, set_register, update_pc, commit_pc, set_cycles, set_max_cycles, changed};
-ghost use Rattle.machine.specs.Fresh.{records_fit, fresh, answered};
+ghost use Rattle.machine.specs.Fresh.{records_fit, fresh, made};
 
-use memory::{Memory, PAGE, Value};
-use outcome::Outcome;
+use memory::storage::Storage;
+use memory::{Memory, PAGE};
+use outcome::Refusal;
 
 // The registers of a machine.
 pub const RISCV_GENERAL_REGISTER_NUMBER: usize = 32;
 
-// The words of a page's record: id, offset, mark.
+// The words of a page's record: id, offset, mark. A number of 64 bits; as an index it is tracking's `WORDS`, as a cast at each use
+// is no plainer.
 pub const RECORD_WORDS: u64 = 3;
 
 // A machine's own numbers, and its memory's.
@@ -36,10 +39,11 @@ pub struct Machine {
     pub memory: Memory,
 }
 
-// What a call answers, and the machine handed back.
+// What a call answers, and the machine handed back. Beside each other, as a refusal hands it back too: with a machine in each arm
+// of a `Result`, set_register takes 3.5 times as long.
 #[derive(Clone, Copy)]
 pub struct Answer {
-    pub outcome: Outcome,
+    pub outcome: Result<(), Refusal>,
     pub machine: Machine,
 }
 
@@ -47,24 +51,19 @@ pub struct Answer {
 pub fn records_fit(words: usize, pages: u64) -> bool
     ensures { result ≡ records_fit words pages }
 {
-    if words as u64 % RECORD_WORDS != 0 {
-        return false;
-    }
-    words as u64 / RECORD_WORDS == pages
+    words as u64 % RECORD_WORDS == 0 && words as u64 / RECORD_WORDS == pages
 }
 
 // Every record is untracked.
+#[tactic(auto, unfolding(words::specs::Bytes::filled))]
 pub fn untrack_all(records: &mut [u64])
     ensures { records.new ≡ filled (length records.old) 0 }
 {
-    let mut i = 0;
-    while i < records.len() {
-        records[i] = 0;
-        i += 1;
-    }
+    records.fill(0);
 }
 
 // A machine with nothing done yet, of a version, a maximum of cycles and a memory.
+#[tactic(auto, unfolding(words::specs::Bytes::filled))]
 fn fresh_machine(version: u32, maximum: u64, memory: Memory) -> Machine
     ensures { result ≡ machine_of (fresh_numbers version maximum) memory }
 {
@@ -79,46 +78,26 @@ fn fresh_machine(version: u32, maximum: u64, memory: Memory) -> Machine
     }
 }
 
-// A fresh machine of so many bytes.
-pub fn fresh(
-    slots: &mut [u16],
-    flags: &mut [u8],
-    area: &mut [u8],
-    records: &mut [u64],
-    size: u64,
-    version: u32,
-    maximum: u64,
-) -> Answer
-    ensures { answered result slots.new flags.new area.new records.new ≡ fresh slots.old flags.old area.old records.old size version maximum }
-{
-    if records_fit(records.len(), size / PAGE) {} else {
-        let nothing = Memory {
-            size: 0,
-            used: 0,
-            reservation: 0,
-        };
-        return Answer {
-            outcome: Outcome::BadStorage,
-            machine: fresh_machine(0, 0, nothing),
-        };
-    }
-    let answer = memory::wxorx::fresh(slots, flags, area, size);
-    let outcome = answer.outcome;
-    let made = answer.memory;
-    if outcome::is_done(outcome) {
-        untrack_all(records);
-        return Answer {
-            outcome: Outcome::Done,
-            machine: fresh_machine(version, maximum, made),
-        };
-    }
-    Answer {
-        outcome,
-        machine: fresh_machine(0, 0, made),
-    }
-}
-
 impl Machine {
+    // A fresh machine of so many bytes. The records go beside the storage: the struct of both is tracking's, above.
+    pub fn fresh(
+        storage: &mut Storage,
+        records: &mut [u64],
+        size: u64,
+        version: u32,
+        maximum: u64,
+    ) -> Result<Self, Refusal>
+        ensures value { made result storage.new records.new ≡ fresh storage.old.slots.now storage.old.flags.now storage.old.area.now records.old size version maximum }
+        ensures same { SameSlices storage.old storage.new }
+    {
+        if !records_fit(records.len(), size / PAGE) {
+            return Err(Refusal::BadStorage);
+        }
+        let memory = Memory::fresh(storage, size)?;
+        untrack_all(records);
+        Ok(fresh_machine(version, maximum, memory))
+    }
+
     // The registers.
     pub fn registers(self) -> [u64; RISCV_GENERAL_REGISTER_NUMBER]
         ensures { result ≡ (numbers_of self).registers }
@@ -135,39 +114,34 @@ impl Machine {
     }
 
     // A register.
-    pub fn register(self, i: u64) -> Value
+    #[tactic(auto, unfolding(crate::specs::Numbers::register))]
+    pub fn register(self, i: u64) -> Result<u64, Refusal>
         ensures { value_of result ≡ register i (numbers_of self) }
     {
         let at = i as usize;
         if at < RISCV_GENERAL_REGISTER_NUMBER {
-            Value {
-                outcome: Outcome::Done,
-                value: self.registers[at],
-            }
+            Ok(self.registers[at])
         } else {
-            Value {
-                outcome: Outcome::NoSuchRegister,
-                value: 0,
-            }
+            Err(Refusal::NoSuchRegister)
         }
     }
 
     // Sets a register.
+    #[tactic(auto, unfolding(crate::specs::Numbers::set_register))]
     pub fn set_register(mut self, i: u64, value: u64) -> Answer
         ensures { (number_of result.outcome, result.machine) ≡ changed (set_register i value (numbers_of self)) self.memory }
     {
         let at = i as usize;
-        if at < RISCV_GENERAL_REGISTER_NUMBER {
-            self.registers[at] = value;
-            Answer {
-                outcome: Outcome::Done,
+        if at >= RISCV_GENERAL_REGISTER_NUMBER {
+            return Answer {
+                outcome: Err(Refusal::NoSuchRegister),
                 machine: self,
-            }
-        } else {
-            Answer {
-                outcome: Outcome::NoSuchRegister,
-                machine: self,
-            }
+            };
+        }
+        self.registers[at] = value;
+        Answer {
+            outcome: Ok(()),
+            machine: self,
         }
     }
 
@@ -190,8 +164,7 @@ impl Machine {
     pub fn commit_pc(mut self) -> Self
         ensures { result ≡ machine_of (commit_pc (numbers_of self)) self.memory }
     {
-        let next = self.next_pc;
-        self.pc = next;
+        self.pc = self.next_pc;
         self
     }
 

@@ -207,27 +207,34 @@ module _ (slots area flags₀ flags : List ℕ) (first last page : ℕ)
         left-turn w _ (one_more last page h) _ (length-set flags page _)
         (λ m. or_there slots flags area m page l dirty)
 
--- the flags of W^X `init_pages`: `left` pages from `page` on
-module _ (slots area flags₀ flags : List ℕ) (first count f page left : ℕ)
-    (w : Left (init_flag f) slots area flags₀ count first flags left page) where
-  pub inits-done : (m : Memory) → left ≤ 0
+-- the flags of W^X `init_pages`
+abbrev pub InitsTo : List ℕ → List ℕ → List ℕ → ℕ → ℕ → ℕ → List ℕ → ℕ → Type 0
+InitsTo slots area flags₀ f first count flags page =
+    Left (init_flag f) slots area flags₀ count first flags (first + count - page) page
+
+module _ (slots area flags₀ flags : List ℕ) (first count f page : ℕ)
+    (w : InitsTo slots area flags₀ f first count flags page) where
+  pub inits-done : (m : Memory) → first + count ≤ page
       → (0, state_of slots flags area m) ≡ run does (each (init_flag f) count first) (state_of slots flags₀ area m)
   inits-done m h = left_none w m (omega arith)
 
-  module _ (h : 0 < left) where
+  module _ (h : page < first + count) where
+    others : first + count - page ≡ suc (first + count - (page + 1))
+    others = omega arith
+
     pub inits-past : (m : Memory) → length flags ≤ page
         → (2, state_of slots flags area m) ≡ run does (each (init_flag f) count first) (state_of slots flags₀ area m)
     inits-past m l =
-        left-stop w (left - 1) (omega arith) m 2 (init_past slots flags area m page l f) (omega arith)
+        left-stop w _ others m 2 (init_past slots flags area m page l f) (omega arith)
 
     module _ (l : page < length flags) where
       pub inits-frozen : (m : Memory) → (bit_and (get_or flags page 0) frozen ≡ 0 → ⊥)
           → (5, state_of slots flags area m) ≡ run does (each (init_flag f) count first) (state_of slots flags₀ area m)
       inits-frozen m n =
-          left-stop w (left - 1) (omega arith) m 5 (init_not slots flags area m page l f n) (omega arith)
+          left-stop w _ others m 5 (init_not slots flags area m page l f n) (omega arith)
 
       pub inits-next : bit_and (get_or flags page 0) frozen ≡ 0
-          → Left (init_flag f) slots area flags₀ count first (set flags page (bit_or (get_or flags page 0) f)) (left - 1) (page + 1)
+          → InitsTo slots area flags₀ f first count (set flags page (bit_or (get_or flags page 0) f)) (page + 1)
       inits-next e =
-          left-turn w (left - 1) (omega arith) _ (length-set flags page _)
+          left-turn w _ others _ (length-set flags page _)
           (λ m. init_yes slots flags area m page l f e)

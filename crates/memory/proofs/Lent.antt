@@ -65,9 +65,3 @@ module _ (area p : List ℕ) (slot : ℕ) (h : slot < length area / page_size) w
       → put_mid (slot * page_size) (slot * page_size + page_size - slot * page_size) area p ≡ written area (slot * page_size + at) s
   slot_written at s k w =
       lent_written area p (slot * page_size) (slot * page_size + page_size) (omega arith) at s (omega arith) (omega arith) w
-
-  pub slot_filled : (at n v : ℕ) → at + n ≤ page_size
-      → p ≡ written (part area (slot * page_size) (slot * page_size + page_size - slot * page_size)) at (filled n v)
-      → put_mid (slot * page_size) (slot * page_size + page_size - slot * page_size) area p
-      ≡ written area (slot * page_size + at) (filled n v)
-  slot_filled at n v k w = slot_written at (filled n v) (rw length-filled k) w

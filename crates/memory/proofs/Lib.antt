@@ -1,6 +1,8 @@
 -- What holds of the memory. Laws of one page and of each call, which the proofs of the functions cite:
+pub mod Refused
 pub mod Lengths
 pub mod Lent
+pub mod Stored
 pub mod OnePage
 pub mod MadeReady
 pub mod Store

@@ -167,15 +167,9 @@ module _ (s : State) (a n room : ℕ) where
   rest : Call ℕ
   rest = and_then (meets a n) (ret (cond (ltb room n) 8 0))
 
-  reach-past : s.memory.size < a + n → (2, s) ≡ run does (reach a n room) s
+  pub reach-past : s.memory.size < a + n → (2, s) ≡ run does (reach a n room) s
   unfolding run reach rest
   reach-past h = ap (λ (b : Bool). run does (cond b (ret 2) rest) s) (sym (lt-ltb s.memory.size (a + n) h))
-
-  pub reach-start : s.memory.size < a → (2, s) ≡ run does (reach a n room) s
-  reach-start h = reach-past (omega arith)
-
-  pub reach-end : s.memory.size - a < n → (2, s) ≡ run does (reach a n room) s
-  reach-end h = reach-past (omega arith)
 
   inside : a + n ≤ s.memory.size → run does rest s ≡ run does (reach a n room) s
   unfolding run reach rest
@@ -231,7 +225,7 @@ module _ (s : State) (a n room : ℕ) where
 -- ---- a lent output, with the bytes of a result at its front
 module _ (s : State) (out : List ℕ) where
   -- a refusal has none
-  unchanged : (k : ℕ) → wrote k 0 out s ≡ laid out (no_output k, s)
+  pub unchanged : (k : ℕ) → wrote k 0 out s ≡ laid out (no_output k, s)
   unchanged k = ap (λ (t : List ℕ). wrote k 0 t s) (sym (written_none out 0))
 
   module _ (g : Call Output) (b : Bool) (f : b ≡ fits s) where

@@ -1,5 +1,5 @@
 -- A slot that is made ready for a store: zeroed, or all its bytes are to be stored to.
-use Rattle.std.proofs.Common.{◌≡◌, ℕ, ◌+◌, ◌*◌, ◌/◌, ◌<◌, ◌≤◌, Bool, true, false, eqb, List, length, get_or, set, sym, refl, ap, ◌∙◌, arith}
+use Rattle.std.proofs.Common.{◌≡◌, ℕ, ◌+◌, ◌*◌, ◌/◌, ◌<◌, ◌≤◌, Bool, true, false, eqb, List, length, get_or, set, sym, refl, ap, ◌∙◌, arith, eq-eqb}
 use lib.Bits.{bit_or}
 use borrow.Author.Tests.{eqb-false}
 use Rattle.bits.specs.Rounding.{page_size}
@@ -103,18 +103,20 @@ module _ (slots flags area sl b bytes : List ℕ) (m k : Memory) (p at n x : ℕ
   ready_written c a r h fl w u v =
       page-written slots flags area sl _ bytes m k p at n d e i c x a r fl w u (v ∙ y.same at bytes refl h)
 
--- the same of bytes of one value
-module _ (slots flags area sl b : List ℕ) (m k : Memory) (p at n x j v : ℕ) (d : Bool)
+-- the same where the fetch answered a slot or a refusal, and left the flags as they were
+module _ (slots flags area sl fl b bytes : List ℕ) (m k : Memory) (p at n x j : ℕ) (f : fl ≡ flags) (l : j ≡ length bytes)
     (e : (n, state_of sl flags (fetch_page (state_of slots flags area m) p).1.area k) ≡ fetch_page (state_of slots flags area m) p)
-    (y : Ready n j x (fetch_page (state_of slots flags area m) p).1.area b) (i : d ≡ eqb n 0) where
-  long : Ready n (length (filled j v)) x (fetch_page (state_of slots flags area m) p).1.area b
-  long = rw length-filled y
+    (y : Ready n j x (fetch_page (state_of slots flags area m) p).1.area b) where
+  y' : Ready n (length bytes) x (fetch_page (state_of slots flags area m) p).1.area b
+  y' = rw (← l) y
 
-  pub fill-refused : d ≡ false → (n, state_of sl flags b k) ≡ store_page (state_of slots flags area m) p at (filled j v)
-  fill-refused c = ready_refused slots flags area sl b (filled j v) m k p at n x d e long i c
+  pub part-refused : false ≡ eqb n 0 → (n, state_of sl fl b k) ≡ store_page (state_of slots flags area m) p at bytes
+  part-refused i = rw f (ready_refused slots flags area sl b bytes m k p at n x false e y' i refl)
 
-  pub fill-written : d ≡ true → (a : ℕ) → Fetch n p x sl a m k → at + j ≤ page_size
-      → (fl w : List ℕ) → fl ≡ set flags p (bit_or (get_or flags p 0) dirty) → w ≡ written b (x * page_size + at) (filled j v)
-      → (0, state_of sl fl w k) ≡ store_page (state_of slots flags area m) p at (filled j v)
-  fill-written c a r h fl w u z =
-      ready_written slots flags area sl b (filled j v) m k p at n x d e long i c a r (rw length-filled h) fl w u z
+  pub part-written : n ≡ 0 → (a : ℕ) → Fetch n p x sl a m k → at + length bytes ≤ page_size
+      → (s₂ f₂ w : List ℕ) → s₂ ≡ sl → f₂ ≡ set fl p (bit_or (get_or fl p 0) dirty) → w ≡ written b (x * page_size + at) bytes
+      → (0, state_of s₂ f₂ w k) ≡ store_page (state_of slots flags area m) p at bytes
+  part-written z a r h s₂ f₂ w es u v =
+      rw es
+      (ready_written slots flags area sl b bytes m k p at n x true e y' (sym (eq-eqb n 0 z)) refl a r h f₂ w
+      (u ∙ ap (λ (q : List ℕ). set q p (bit_or (get_or q p 0) dirty)) f) v)

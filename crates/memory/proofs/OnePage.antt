@@ -1,5 +1,5 @@
 -- One page: its slot, the cases of a fetch and of a store to it.
-use Rattle.std.proofs.Common.{◌≡◌, ℕ, zero, suc, ◌+◌, ◌*◌, ◌/◌, ◌<◌, ◌≤◌, Bool, true, false, cond, eqb, List, [], ◌∷◌, length, get_or, set, sym, refl, ap, ◌∙◌, not-suc-le-zero, arith, get_or-set_same, le-ltb, lt-ltb, eq-eqb, ne_eqb, eqb-true}
+use Rattle.std.proofs.Common.{◌≡◌, ℕ, zero, suc, ◌+◌, ◌*◌, ◌/◌, ◌<◌, ◌≤◌, Bool, true, false, cond, eqb, List, [], ◌∷◌, length, get_or, set, sym, refl, ap, ◌∙◌, not-suc-le-zero, arith, le-ltb, lt-ltb, eq-eqb, ne_eqb, eqb-true}
 use native.Mathlib.Decide.{dec_lt}
 use lib.ListN.{get_or-eq_default}
 use lib.Bits.{bit_or}
@@ -69,15 +69,6 @@ module _ (slots flags area : List ℕ) (m : Memory) (p : ℕ) where
 
 -- what is known then
 module _ (slots : List ℕ) (flags area : ℕ) (m : Memory) (p : ℕ) (f : Fitting (length slots) flags area m) where
-  pub unfetched : (n x : ℕ) → 0 < n → Fetch n p x slots area m m
-  unfetched n x h =
-      record {
-        kept = record { size_kept = refl; reservation_kept = refl; used_in = f.used_in };
-        there = λ e. absurd (omega arith);
-        slot_is = λ e. absurd (omega arith);
-        slot_inside = λ e. absurd (omega arith);
-      }
-
   pub fetched-had : (x : ℕ) → p < m.size / page_size → x ≡ get_or slots p 0 → x < m.used → Fetch 0 p x slots area m m
   fetched-had x h e u =
       record {
@@ -86,23 +77,6 @@ module _ (slots : List ℕ) (flags area : ℕ) (m : Memory) (p : ℕ) (f : Fitti
         slot_is = λ z. slot_there slots p x (omega arith) e;
         slot_inside = λ z. omega arith;
       }
-
-  pub fetched-taken : p < m.size / page_size → m.used < area / page_size → Fetch 0 p m.used (set slots p m.used) area m (taken m)
-  fetched-taken h u =
-      record {
-        kept = record { size_kept = refl; reservation_kept = refl; used_in = omega arith };
-        there = λ z. h;
-        slot_is = λ z. sym (get_or-set_same slots p m.used absent (omega arith));
-        slot_inside = λ z. u;
-      }
-
--- where a fetch is done, the page's flag and slot are there
-module _ (n p x : ℕ) (slots : List ℕ) (area : ℕ) (m k : Memory) (d : Bool) where
-  pub flag-there : (s f : ℕ) → Fitting s f area m → Fetch n p x slots area m k → d ≡ eqb n 0 → d ≡ true → p < f
-  flag-there s f w r i t = omega (arith, r.there (eqb-true n 0 (sym i ∙ t)))
-
-  pub slot_room : (a : ℕ) → a ≡ area → Fetch n p x slots area m k → d ≡ eqb n 0 → d ≡ true → x < a / page_size
-  slot_room a e r i t = rw e (r.slot_inside (eqb-true n 0 (sym i ∙ t)))
 
 -- ---- a store to one page, by what its fetch answered and left
 module _ (slots flags area sl ar bytes : List ℕ) (m k : Memory) (p at n : ℕ) (d : Bool)

@@ -135,6 +135,3 @@ module _ {slots area : List ℕ} {a n : ℕ} {out₀ out : List ℕ} {i : ℕ} (
             ∙ ap (λ (x : ℕ). written (written out₀ 0 (span (byte_in slots area) a i)) x p) (sym j)
             ∙ written_next out₀ (span (byte_in slots area) a i) p 0 ∙ rw (b, span_add (byte_in slots area) i k a);
       }
-
-  pub filling-done : n ≤ i → out ≡ written out₀ 0 (span (byte_in slots area) a n)
-  filling-done h = let e : n ≡ i = omega (arith, g.in_n) in rw e g.is

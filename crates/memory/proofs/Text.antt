@@ -1,6 +1,5 @@
 -- A C string that is read byte by byte: one law for each end of a turn.
-use Rattle.std.proofs.Common.{◌≡◌, ℕ, zero, suc, ◌+◌, ◌-◌, ◌/◌, ◌^◌, ◌<◌, ◌≤◌, Bool, true, false, cond, eqb, List, [], ◌∷◌, ◌++◌, length, take, drop, set, sym, refl, ap, ◌∙◌, add-one, arith, length-set, take-append-drop, length-take-le, drop-drop, take-suc-set, drop-set-lt, eq-eqb, ne_eqb}
-use native.Mathlib.Nat.{sub-zero}
+use Rattle.std.proofs.Common.{◌≡◌, ℕ, zero, suc, ◌+◌, ◌-◌, ◌/◌, ◌^◌, ◌<◌, ◌≤◌, Bool, true, false, cond, eqb, List, [], ◌∷◌, ◌++◌, length, take, drop, set, sym, ap, ◌∙◌, add-one, arith, length-set, take-append-drop, length-take-le, drop-drop, take-suc-set, drop-set-lt, eq-eqb, ne_eqb}
 use Rattle.bits.specs.Rounding.{page_size}
 use Rattle.words.specs.Bytes.{written}
 use Rattle.words.proofs.Written.{written-fits}
@@ -52,15 +51,6 @@ pub record Reading (slots area : List ℕ) (used a₀ : ℕ) (out₀ out : List 
   pub in_out : i ≤ length out₀
   pub kept : length out ≡ length out₀
   pub rest_kept : drop i out ≡ drop i out₀
-
-pub reading_none : (slots area : List ℕ) (used a : ℕ) (out : List ℕ) → Reading slots area used a out out 0 a
-reading_none slots area used a out =
-    record {
-      same = λ s x y u. ap (λ (n : ℕ). run does (c_string n a []) s) (sub-zero (length out));
-      in_out = omega arith;
-      kept = refl;
-      rest_kept = refl;
-    }
 
 module _ {slots area : List ℕ} {used a₀ : ℕ} {out₀ out : List ℕ} {i a : ℕ} (g : Reading slots area used a₀ out₀ out i a) where
   front : length (take i out) ≡ i

@@ -1,19 +1,16 @@
 -- W^X memory: the check of permission, stores, execute loads and `init_pages`, each in the cases in which it ends.
-use Rattle.std.proofs.Common.{◌≡◌, ℕ, ◌+◌, ◌*◌, ◌/◌, ◌%◌, ◌≤◌, Bool, true, false, cond, eqb, ltb, List, length, take, sym, refl, ap, ◌∙◌, arith, ltb-false, le-ltb, eq-eqb, ne_eqb, eqb-true}
+use Rattle.std.proofs.Common.{◌≡◌, ℕ, ◌+◌, ◌*◌, ◌/◌, ◌%◌, ◌≤◌, Bool, true, false, cond, eqb, ltb, List, length, sym, refl, ap, ◌∙◌, arith, ltb-false, le-ltb, eq-eqb, ne_eqb, eqb-true}
 use Rattle.bits.specs.Rounding.{page_size, rounded_up, rounded_down}
-use Rattle.words.specs.Bytes.{filled, written}
-use Rattle.words.specs.LittleEndian.{to_le}
-use Rattle.words.proofs.Filled.{length-filled}
 use Rattle.program.specs.Program.{run, each, and_then, onwards, ret}
 use Rattle.program.proofs.Laws.{after-done, after_stop, then_done, then_stop}
 use Rattle.memory.specs.declared.Memory.{Memory}
 use Rattle.memory.specs.Pages.{maximum, PageIndices, page_indices, writable, executable}
 use Rattle.memory.specs.Storage.{State, Valued, no_value, fits_lengths, fits}
 use Rattle.memory.specs.Operations.{Call, does}
-use Rattle.memory.specs.Sparse.{permits, store, load, fill}
-use Rattle.memory.specs.WXorX.{permitted, store_bytes, store_byte, store_wide, execute_load, init_flag, in_bounds, init_pages}
+use Rattle.memory.specs.Sparse.{permits, store, load, load_wide, fill}
+use Rattle.memory.specs.WXorX.{permitted, store_bytes, execute_load, init_flag, in_bounds, init_pages}
 use Rattle.memory.proofs.Lengths.{fits_told, fit-yes}
-use Rattle.memory.proofs.Store.{store_at, wide_bytes}
+use Rattle.memory.proofs.Store.{store_at}
 
 -- ---- the bounds of `init_pages`
 
@@ -74,7 +71,7 @@ module _ (s : State) (want a n k first last : ℕ) (d : Bool)
 
 -- ---- a store of n bytes: none, refused by the check, stored
 module _ (s : State) (a n : ℕ) (bytes : List ℕ) (l : length bytes ≡ n) (b : Bool) (e : b ≡ fits s) (t : b ≡ true) where
-  any_none : n ≡ 0 → (0, s) ≡ run does (store_bytes a bytes) s
+  pub any_none : n ≡ 0 → (0, s) ≡ run does (store_bytes a bytes) s
   unfolding run store_bytes
   any_none z = fit-yes (λ n. n) s _ b e _ t (rw (l, z))
 
@@ -83,48 +80,12 @@ module _ (s : State) (a n : ℕ) (bytes : List ℕ) (l : length bytes ≡ n) (b 
     unfolding store_bytes
     some r q = fit-yes (λ n. n) s _ b e _ t (rw (l, ne_eqb n 0 z) q)
 
-    any_denied : d ≡ false → (k, s) ≡ run does (store_bytes a bytes) s
+    pub any_denied : d ≡ false → (k, s) ≡ run does (store_bytes a bytes) s
     any_denied c = some _ (then_stop does (permitted writable a n) (store a bytes) s k s d p i c)
 
-    any-done : (r : ℕ × State) → d ≡ true → r ≡ run does (store (a / page_size * page_size + a % page_size) bytes) s
+    pub any-done : (r : ℕ × State) → d ≡ true → r ≡ run does (store (a / page_size * page_size + a % page_size) bytes) s
         → r ≡ run does (store_bytes a bytes) s
     any-done r c q = some r (then_done does (permitted writable a n) (store a bytes) s k s d r p i c (store_at s a bytes r q))
-
--- of bytes
-module _ (s : State) (a : ℕ) (bytes : List ℕ) (b : Bool) (e : b ≡ fits s) (t : b ≡ true) where
-  pub stores_none : length bytes ≡ 0 → (0, s) ≡ run does (store_bytes a bytes) s
-  stores_none = any_none s a _ bytes refl b e t
-
-  module _ (z : length bytes ≡ 0 → ⊥) (k : ℕ) (d : Bool) (p : (k, s) ≡ run does (permitted writable a (length bytes)) s)
-      (i : d ≡ eqb k 0) where
-    pub stores_denied : d ≡ false → (k, s) ≡ run does (store_bytes a bytes) s
-    stores_denied = any_denied s a _ bytes refl b e t z k d p i
-
-    pub stores-done : (r : ℕ × State) → d ≡ true → r ≡ run does (store (a / page_size * page_size + a % page_size) bytes) s
-        → r ≡ run does (store_bytes a bytes) s
-    stores-done = any-done s a _ bytes refl b e t z k d p i
-
--- of n bytes of one value
-module _ (s : State) (a n v : ℕ) (b : Bool) (e : b ≡ fits s) (t : b ≡ true) where
-  pub fills_none : n ≡ 0 → (0, s) ≡ run does (store_byte a n v) s
-  unfolding store_byte
-  fills_none = any_none s a n (filled n v) (length-filled n v) b e t
-
-  module _ (z : n ≡ 0 → ⊥) (k : ℕ) (d : Bool) (p : (k, s) ≡ run does (permitted writable a n) s) (i : d ≡ eqb k 0) where
-    pub fills_denied : d ≡ false → (k, s) ≡ run does (store_byte a n v) s
-    unfolding store_byte
-    fills_denied = any_denied s a n (filled n v) (length-filled n v) b e t z k d p i
-
-    pub fills_done : (r : ℕ × State) → d ≡ true → r ≡ run does (store (a / page_size * page_size + a % page_size) (filled n v)) s
-        → r ≡ run does (store_byte a n v) s
-    unfolding store_byte
-    fills_done = any-done s a n (filled n v) (length-filled n v) b e t z k d p i
-
--- of the low n bytes of a number, at the front of a list with room for m of them
-pub wide_stored : (s : State) (a n m x : ℕ) (zeros w : List ℕ) (r : ℕ × State) → w ≡ written zeros 0 (to_le m x) → m ≤ length zeros → n ≤ m
-    → r ≡ run does (store_bytes a (take n w)) s → r ≡ run does (store_wide n a x) s
-unfolding store_wide
-wide_stored s a n m x zeros w r e l h q = q ∙ rw (wide_bytes zeros w n m x e l h)
 
 -- ---- an execute load: refused by the check, loaded
 module _ (s : State) (a n : ℕ) (b : Bool) (e : b ≡ fits s) (t : b ≡ true) (k : ℕ) (d : Bool)
@@ -136,6 +97,10 @@ module _ (s : State) (a n : ℕ) (b : Bool) (e : b ≡ fits s) (t : b ≡ true) 
   pub executes_done : (r : Valued × State) → d ≡ true → r ≡ run does (load n a) s → r ≡ run does (execute_load n a) s
   unfolding execute_load
   executes_done r c q = fit-yes no_value s _ b e _ t (after-done does no_value (permitted executable a n) (load n a) s k s d r p i c q)
+
+  pub executes_wide : (r : Valued × State) → d ≡ true → r ≡ run does (load_wide n a) s → r ≡ run does (execute_load n a) s
+  unfolding load_wide
+  executes_wide r c q = executes_done r c (q ∙ sym (fit-yes no_value s (load n a) b e _ t refl))
 
 -- ---- `init_pages`
 

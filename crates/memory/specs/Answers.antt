@@ -1,24 +1,21 @@
 -- What the code answers, in the words of the definitions.
-use Rattle.std.specs.Prelude.{ℕ, List}
-use Rattle.outcome.specs.Numbers.{number_of}
+use Rattle.std.specs.Prelude.{ℕ, List, Result, Ok, Err}
+use Rattle.outcome.specs.Numbers.{refusal_number}
+use Rattle.outcome.specs.declared.Refusal.{Refusal}
 use Rattle.words.specs.Bytes.{written}
-use Rattle.memory.specs.Pages.{PageIndices}
-use Rattle.memory.specs.Storage.{State, Valued, state_of}
+use Rattle.memory.specs.Pages.{PageIndices, no_indices}
+use Rattle.memory.specs.Storage.{State, Valued, valued, no_value}
 use Rattle.memory.specs.Sparse.{Output, output}
-use Rattle.memory.specs.declared.Answer.{Answer}
-use Rattle.memory.specs.declared.Value.{Value}
 use Rattle.memory.specs.declared.Indices.{Indices}
 
--- the number that a call answered, and the storage that it left
-abbrev pub answered : Answer → List ℕ → List ℕ → List ℕ → ℕ × State
-answered r slots flags area = (number_of r.outcome, state_of slots flags area r.memory)
-
 -- a number and a value
-abbrev pub value_of : Value → Valued
-value_of r = record { number = number_of r.outcome; value = r.value }
+abbrev pub value_of : Result ℕ Refusal → Valued
+value_of (Ok v) = valued v
+value_of (Err e) = no_value (refusal_number e)
 
-abbrev pub indices_of : Indices → PageIndices
-indices_of r = record { number = number_of r.outcome; first = r.first; last = r.last }
+abbrev pub indices_of : Result Indices Refusal → PageIndices
+indices_of (Ok r) = record { number = 0; first = r.first; last = r.last }
+indices_of (Err e) = no_indices (refusal_number e)
 
 -- a number, a value, and the whole output that a call left; the storage was only read
 abbrev pub wrote : ℕ → ℕ → List ℕ → State → Output × State

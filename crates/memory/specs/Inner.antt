@@ -1,14 +1,12 @@
--- What the private functions promise each other beside the definitions: places, what a fetched page is known to be, and what was
--- done to bytes of one page that is in a slot.
+-- What functions promise each other beside the definitions: places, what a fetched page is known to be, and what was done to bytes
+-- of one page that is in a slot. `Same` and `Did` are promised by public ones, store_over and store_here; the others by private ones.
 use Rattle.std.specs.Prelude.{◌≡◌, ℕ, ◌+◌, ◌*◌, ◌/◌, ◌%◌, ◌<◌, ◌≤◌, Bool, true, false, List, length, bit_and, slice_index}
 use Rattle.bits.specs.Rounding.{page_size}
-use Rattle.outcome.specs.Numbers.{number_of}
 use Rattle.program.specs.Program.{run}
-use Rattle.memory.specs.Storage.{State, Fitting, state_of, slot_in, store_page, valued}
+use Rattle.memory.specs.Storage.{State, Fitting, slot_in, store_page, valued}
 use Rattle.memory.specs.Operations.{does}
 use Rattle.memory.specs.Sparse.{load_wide}
 use Rattle.memory.specs.declared.Memory.{Memory}
-use Rattle.memory.specs.declared.page.Fetched.{Fetched}
 
 -- a page and an index in it, of an address
 pub record At (page at address : ℕ) : Type 0 where
@@ -26,10 +24,6 @@ pub record Kept (area : ℕ) (before after : Memory) : Type 0 where
   pub reservation_kept : after.reservation ≡ before.reservation
   pub used_in : after.used ≤ area / page_size
 
--- what a fetch answered and left
-abbrev pub fetched : Fetched → List ℕ → List ℕ → List ℕ → ℕ × State
-fetched r slots flags area = (number_of r.outcome, state_of slots flags area r.memory)
-
 -- where a fetch is done, the page is there, and its slot
 pub record Fetch (number page slot : ℕ) (slots : List ℕ) (area : ℕ) (before after : Memory) : Type 0 where
   pub kept : Kept area before after
@@ -45,10 +39,6 @@ pub record Spot (slots : List ℕ) (flags area : ℕ) (m : Memory) (a n slot : �
   pub inside : a % page_size + n ≤ page_size
   pub slot_is : slot ≡ slot_in slots (a / page_size)
 
--- what a number is known to be that is given as that slot: below the slots in use it is
-pub record SlotHere (slots : List ℕ) (flags area : ℕ) (m : Memory) (a n slot : ℕ) : Type 0 where
-  pub found : slot < m.used → Spot slots flags area m a n slot
-
 -- bytes were stored in one page whose flag has no bit of `mask`
 pub record Stored (mask : ℕ) (s t : State) (a : ℕ) (bytes : List ℕ) : Type 0 where
   pub fit : Fitting (length s.slots) (length s.flags) (length s.area) s.memory
@@ -62,6 +52,11 @@ pub record StoreHere (done : Bool) (mask : ℕ) (s t : State) (a : ℕ) (bytes :
   pub yes : done ≡ true → Stored mask s t a bytes
   pub no : done ≡ false → t ≡ s
 
--- a number was loaded, or none
-pub record LoadHere (done : Bool) (v : ℕ) (s : State) (a n : ℕ) : Type 0 where
-  pub yes : done ≡ true → (valued v, s) ≡ run does (load_wide n a) s
+-- a whole call was done, or nothing
+pub record Did (done : Bool) (whole : ℕ × State) (s t : State) : Type 0 where
+  pub yes : done ≡ true → (0, t) ≡ whole
+  pub no : done ≡ false → t ≡ s
+
+-- a number was loaded
+pub record LoadHere (v : ℕ) (s : State) (a n : ℕ) : Type 0 where
+  pub is : (valued v, s) ≡ run does (load_wide n a) s

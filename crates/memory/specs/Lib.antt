@@ -6,6 +6,7 @@ pub mod Operations
 pub mod Sparse
 pub mod WXorX
 pub mod Answers
+pub mod Lent
 pub mod Inner
 pub mod Ready
 pub mod View

@@ -1,13 +1,14 @@
-// The memory over lent, bounded storage: memory/mod.rs, with sparse.rs and wxorx.rs in the modules beside it.
+// The memory over lent, bounded storage: memory/mod.rs, sparse.rs and wxorx.rs.
 //
 // Document 01, "Rounding and pages". A memory's pages lie in slices that the caller lends to every call: a slot number and a
-// flag for each page, and the slot area, of whole pages. `Memory`, by value, has its size, the count of slots in use and the
-// reservation. A page is absent until it is first written; then it takes the lowest slot not in use.
+// flag for each page, and the slot area, of whole pages. `Memory` has its size, the count of slots in use and the reservation.
+// A page is absent until it is first written; then it takes the lowest slot not in use.
 //
-//   sparse   pages in slots; no permission check
-//   wxorx    the same, with the W^X check on stores and execute loads, and frozen pages
-//   lib      page indices, whether a page can be read, the permission check, set_dirty, and the fill of pages, as memory/mod.rs
-//            has them
+//   storage   what is lent: `Storage` to be written, `LentFlags` for its flags alone, `Lent` to be read; bytes and widths
+//   layer     `Layer`, the calls that the two memories answer each in its own way: `Sparse`, pages in slots with no permission
+//             check, and `WXorX`, the same with the W^X check on stores and execute loads, and frozen pages
+//   shared    what both answer alike, as methods of `Memory`; loads are in load.rt
+//   lib       page indices, whether a page can be read, the permission check and set_dirty, as memory/mod.rs has them
 //
 // Every call answers on every input, and looks at the lengths of the lent storage first (refusal 9). What it answers and
 // leaves is one program of specs/ (Sparse.antt, WXorX.antt), run on the lent lists. Stores of bytes and stores and loads of
@@ -15,31 +16,35 @@
 #![tactic(auto)]
 
 mod here;
+pub mod layer;
 mod load;
 mod page;
-pub mod sparse;
-pub mod wxorx;
+mod shared;
+pub mod storage;
 
-ghost use Rattle.std.specs.Prelude.{◌≡◌, ◌+◌, ◌<◌, ◌≤◌, length};
+ghost use Rattle.std.specs.Prelude.{◌≡◌, ◌+◌, ◌<◌, ◌≤◌, List, ℕ, length};
 ghost use Rattle.outcome.specs.Numbers.{number_of};
 ghost use Rattle.program.specs.Program.{run};
+ghost use Rattle.memory.specs.declared.Memory.{Memory};
 ghost use Rattle.memory.specs.Pages.{pages_within, page_indices};
-ghost use Rattle.memory.specs.Storage.{state_of, fits_lengths, Fitting, met};
+ghost use Rattle.memory.specs.Storage.{state_of, fits_lengths, met};
 ghost use Rattle.memory.specs.Operations.{does};
-ghost use Rattle.memory.specs.Sparse.{permits, check_permission, marks, set_dirty, fill_page_data};
+ghost use Rattle.memory.specs.Sparse.{permits, check_permission, marks, set_dirty};
 ghost use Rattle.memory.specs.WXorX.{permitted};
-ghost use Rattle.memory.specs.Answers.{answered, indices_of};
+ghost use Rattle.memory.specs.Answers.{indices_of};
+ghost use Rattle.memory.specs.Lent.{read_in, flags_in, SameFlags};
 
 use bits::RISCV_PAGESIZE;
-use outcome::Outcome;
+use outcome::Refusal;
+use storage::{Lent, LentFlags};
 
 // The most bytes of a memory.
 pub const RISCV_MAX_MEMORY: u64 = 4194304;
 
-// The bytes of a page, as a number of 64 bits.
+// The bytes of a page, as a number of 64 bits: a cast at each use is no plainer.
 pub const PAGE: u64 = RISCV_PAGESIZE as u64;
 
-// The bits of a page's flag.
+// The bits of a page's flag, a byte in lent storage: numbers, as C sees them there.
 pub const FLAG_FREEZED: u8 = 1;
 
 pub const FLAG_EXECUTABLE: u8 = 2;
@@ -50,13 +55,13 @@ pub const FLAG_WRITABLE: u8 = 0;
 
 pub const FLAG_DIRTY: u8 = 4;
 
-// The slot number of an absent page.
+// The slot number of an absent page: a number, as C sees it in the lent slots.
 pub const INVALID_PAGE_INDEX: usize = 65535;
 
 // The most slots that may be lent.
 pub const MOST_SLOTS: usize = 65535;
 
-// The reservation of a fresh memory.
+// The reservation of a fresh memory: a number, as C holds it.
 pub const NO_RESERVATION: u64 = 18446744073709551615;
 
 // A memory's own numbers: its bytes, its slots in use (the lowest so many), and the reservation.
@@ -68,29 +73,16 @@ pub struct Memory {
     pub reservation: u64,
 }
 
-// What a call answers that may change the memory's numbers.
-#[derive(Clone, Copy)]
-pub struct Answer {
-    pub outcome: Outcome,
-    pub memory: Memory,
-}
-
-// What a call answers that reads a number: 0 where it refuses.
-#[derive(Clone, Copy)]
-pub struct Value {
-    pub outcome: Outcome,
-    pub value: u64,
-}
-
-// The first and the last page of bytes from an address on: 0 where it refuses.
+// The first and the last page of bytes from an address on.
 #[derive(Clone, Copy)]
 pub struct Indices {
-    pub outcome: Outcome,
     pub first: u64,
     pub last: u64,
 }
 
-// Whether the lent lengths are right.
+// Whether the lent lengths are right. By themselves, for `Storage`, `LentFlags`, `Lent` and tracking's
+// `lengths_fit` ask it alike; docs/PROMISES.md has it. One at a time: by `&&` a sparse store takes 1.8 times as long.
+#[inline]
 pub fn storage_fits(slots: usize, flags: usize, area: usize, memory: Memory) -> bool
     ensures { result ≡ fits_lengths slots flags area memory }
 {
@@ -123,195 +115,114 @@ pub fn storage_fits(slots: usize, flags: usize, area: usize, memory: Memory) -> 
 }
 
 // The pages of `size` bytes from an address on, where their end doesn't pass a bound.
-fn pages_within(address: u64, size: u64, bound: u64) -> Indices
+fn pages_within(address: u64, size: u64, bound: u64) -> Result<Indices, Refusal>
     ensures { indices_of result ≡ pages_within bound address size }
 {
     if size == 0 {
-        return Indices {
-            outcome: Outcome::MemOutOfBound,
-            first: 0,
-            last: 0,
-        };
+        return Err(Refusal::MemOutOfBound);
     }
-    let end = std::num::wrapping_add_u64(address, size);
-    if end < address {
-        return Indices {
-            outcome: Outcome::MemOutOfBound,
-            first: 0,
-            last: 0,
-        };
-    }
+    let Some(end) = address.checked_add(size) else {
+        return Err(Refusal::MemOutOfBound);
+    };
     if end > bound {
-        return Indices {
-            outcome: Outcome::MemOutOfBound,
-            first: 0,
-            last: 0,
-        };
+        return Err(Refusal::MemOutOfBound);
     }
-    Indices {
-        outcome: Outcome::Done,
+    Ok(Indices {
         first: address / PAGE,
         last: (end - 1) / PAGE,
-    }
+    })
 }
 
 // The pages of `size` bytes from an address on; the bound is the maximum, not a memory's size.
-pub fn get_page_indices(address: u64, size: u64) -> Indices
+pub fn get_page_indices(address: u64, size: u64) -> Result<Indices, Refusal>
     ensures { indices_of result ≡ page_indices address size }
 {
     pages_within(address, size, RISCV_MAX_MEMORY)
 }
 
 // Whether bytes of a page can be read.
-pub fn meet(slots: &[u16], used: u64, page: usize) -> Outcome
+#[inline]
+pub fn meet(slots: &[u16], used: u64, page: usize) -> Result<(), Refusal>
     ensures { number_of result ≡ met slots.now used page }
 {
     if page >= slots.len() {
-        return Outcome::MemOutOfBound;
+        return Err(Refusal::MemOutOfBound);
     }
-    let slot = page::slot_of(slots, page);
+    let slot = storage::slot_of(slots, page);
     if slot == INVALID_PAGE_INDEX {
-        return Outcome::Done;
+        return Ok(());
     }
     if slot < used as usize {
-        return Outcome::Done;
+        return Ok(());
     }
-    Outcome::BadStorage
+    Err(Refusal::BadStorage)
 }
 
-// Every page from first to last has the W^X bit of `flag`.
-fn permits_pages(
-    slots: &[u16],
-    flags: &[u8],
-    area: &[u8],
-    memory: Memory,
-    first: u64,
-    last: u64,
-    flag: u8,
-) -> Outcome
-    ensures { (number_of result, state_of slots.now flags.now area.now memory) ≡ run does (permits first last flag) (state_of slots.now flags.now area.now memory) }
+// Every page from first to last has the W^X bit of `flag`: a flag's own bits, and two numbers, as `check_permission` and C have
+// them, here and in the calls below.
+fn permits_pages(flags: &[u8], first: u64, last: u64, flag: u8) -> Result<(), Refusal>
+    ensures { (sl ar : List ℕ) (m : Memory) → (number_of result, state_of sl flags.now ar m) ≡ run does (permits first last flag) (state_of sl flags.now ar m) }
 {
-    let mut page = first;
-    while page <= last {
+    for page in first..=last {
         let p = page as usize;
         if p >= flags.len() {
-            return Outcome::MemOutOfBound;
+            return Err(Refusal::MemOutOfBound);
         }
         if flags[p] & FLAG_WXORX_BIT != flag & FLAG_WXORX_BIT {
-            return Outcome::MemWriteOnExecutablePage;
+            return Err(Refusal::MemWriteOnExecutablePage);
         }
-        page += 1;
     }
-    Outcome::Done
-}
-
-// The W^X bit of each page from first to last.
-pub fn check_permission(
-    slots: &[u16],
-    flags: &[u8],
-    area: &[u8],
-    memory: Memory,
-    first: u64,
-    last: u64,
-    flag: u8,
-) -> Outcome
-    ensures { (number_of result, state_of slots.now flags.now area.now memory) ≡ run does (check_permission first last flag) (state_of slots.now flags.now area.now memory) }
-{
-    if storage_fits(slots.len(), flags.len(), area.len(), memory) {
-        return permits_pages(slots, flags, area, memory, first, last, flag);
-    }
-    Outcome::BadStorage
-}
-
-// The pages of `size` bytes from an address on, and the W^X bit of each.
-fn permits_bytes(
-    slots: &[u16],
-    flags: &[u8],
-    area: &[u8],
-    memory: Memory,
-    address: u64,
-    size: u64,
-    flag: u8,
-) -> Outcome
-    ensures { (number_of result, state_of slots.now flags.now area.now memory) ≡ run does (permitted flag address size) (state_of slots.now flags.now area.now memory) }
-{
-    let indices = pages_within(address, size, RISCV_MAX_MEMORY);
-    let outcome = indices.outcome;
-    let first = indices.first;
-    let last = indices.last;
-    if outcome::is_done(outcome) {
-        return permits_pages(slots, flags, area, memory, first, last, flag);
-    }
-    outcome
+    Ok(())
 }
 
 // Dirty is set on every page from first to last.
-fn mark_pages(
-    slots: &[u16],
-    flags: &mut [u8],
-    area: &[u8],
-    memory: Memory,
-    first: u64,
-    last: u64,
-) -> Outcome
-    ensures { (number_of result, state_of slots.now flags.new area.now memory) ≡ run does (marks first last) (state_of slots.now flags.old area.now memory) }
+fn mark_pages(flags: &mut [u8], first: u64, last: u64) -> Result<(), Refusal>
+    ensures { (sl ar : List ℕ) (m : Memory) → (number_of result, state_of sl flags.new ar m) ≡ run does (marks first last) (state_of sl flags.old ar m) }
 {
-    let mut page = first;
-    while page <= last {
+    for page in first..=last {
         let p = page as usize;
         if p >= flags.len() {
-            return Outcome::MemOutOfBound;
+            return Err(Refusal::MemOutOfBound);
         }
-        flags[p] = flags[p] | FLAG_DIRTY;
-        page += 1;
+        flags[p] |= FLAG_DIRTY;
     }
-    Outcome::Done
+    Ok(())
 }
 
-// Dirty set on each page from first to last.
-pub fn set_dirty(
-    slots: &[u16],
-    flags: &mut [u8],
-    area: &[u8],
-    memory: Memory,
-    first: u64,
-    last: u64,
-) -> Outcome
-    ensures { (number_of result, state_of slots.now flags.new area.now memory) ≡ run does (set_dirty first last) (state_of slots.now flags.old area.now memory) }
-{
-    if storage_fits(slots.len(), flags.len(), area.len(), memory) {
-        return mark_pages(slots, flags, area, memory, first, last);
+// Which permission is asked goes as a flag's own bits in all calls on flags, as memory/mod.rs has it.
+impl Memory {
+    // The pages of `size` bytes from an address on, and the W^X bit of each.
+    fn permits_bytes(self, flags: &[u8], address: u64, size: u64, flag: u8) -> Result<(), Refusal>
+        ensures { (sl ar : List ℕ) → (number_of result, state_of sl flags.now ar self) ≡ run does (permitted flag address size) (state_of sl flags.now ar self) }
+    {
+        let indices = get_page_indices(address, size)?;
+        permits_pages(flags, indices.first, indices.last, flag)
     }
-    Outcome::BadStorage
-}
 
-// Zeros up to the lead, the source, and zeros to the end of `size` bytes: three sparse stores.
-pub fn fill_page_data(
-    slots: &mut [u16],
-    flags: &mut [u8],
-    area: &mut [u8],
-    source: &[u8],
-    memory: Memory,
-    address: u64,
-    size: u64,
-    lead: u64,
-) -> Answer
-    ensures { answered result slots.new flags.new area.new ≡ run does (fill_page_data address size lead source.now) (state_of slots.old flags.old area.old memory) }
-{
-    if storage_fits(slots.len(), flags.len(), area.len(), memory) {
-        return page::fill_data(
-            slots,
-            flags,
-            area,
-            source,
-            memory,
-            address,
-            size as usize,
-            lead as usize,
-        );
+    // The W^X bit of each page from first to last.
+    pub fn check_permission(
+        self,
+        lent: Lent,
+        first: u64,
+        last: u64,
+        flag: u8,
+    ) -> Result<(), Refusal>
+        ensures { (number_of result, read_in lent.entry self) ≡ run does (check_permission first last flag) (read_in lent.entry self) }
+    {
+        if !lent.fits(self) {
+            return Err(Refusal::BadStorage);
+        }
+        permits_pages(lent.flags, first, last, flag)
     }
-    Answer {
-        outcome: Outcome::BadStorage,
-        memory,
+
+    // Dirty set on each page from first to last.
+    pub fn set_dirty(self, lent: &mut LentFlags, first: u64, last: u64) -> Result<(), Refusal>
+        ensures value { (number_of result, flags_in lent.new self) ≡ run does (set_dirty first last) (flags_in lent.old self) }
+        ensures same { SameFlags lent.old lent.new }
+    {
+        if !lent.fits(self) {
+            return Err(Refusal::BadStorage);
+        }
+        mark_pages(lent.flags, first, last)
     }
 }

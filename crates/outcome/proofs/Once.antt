@@ -2,8 +2,7 @@
 use Prim.Native.Nat.{ℕ}
 use mathlib.Core.Path.{◌≡◌}
 use mathlib.Core.Bool.{Bool}
-use Rattle.outcome.specs.declared.Outcome.{Outcome}
-use Rattle.outcome.specs.Numbers.{number_of, is_done}
+use Rattle.outcome.specs.Numbers.{Outcome, number_of, is_done}
 
 pub number_call_once : (o : Outcome) (r s : ℕ) → r ≡ number_of o → s ≡ number_of o → r ≡ s
 number_call_once o r s p q = cc

@@ -1,36 +1,49 @@
--- The number of each outcome, as document 01's table has it.
-use Rattle.std.specs.Prelude.{ℕ, Bool, eqb}
-use Rattle.outcome.specs.declared.Outcome.{Outcome}
-use Rattle.outcome.specs.declared.Outcome.TheVariants.{Done, InvalidVersion, MemOutOfBound, MemPageUnalignedAccess, MemWriteOnExecutablePage, MemWriteOnFreezedPage, SnapshotDataLoadError, AllSlotsInUse, OutputTooShort, BadStorage, NoSuchRegister, BadRecordFile}
+-- The number of each answer, as document 01's table has it.
+use Rattle.std.specs.Prelude.{ℕ, ◌≡◌, Bool, eqb, Result, Ok, Err}
+use Rattle.outcome.specs.declared.Refusal.{Refusal}
+use Rattle.outcome.specs.declared.Refusal.TheVariants.{InvalidVersion, MemOutOfBound, MemPageUnalignedAccess, MemWriteOnExecutablePage, MemWriteOnFreezedPage, SnapshotDataLoadError, AllSlotsInUse, OutputTooShort, BadStorage, NoSuchRegister, BadRecordFile}
+use Rattle.outcome.specs.declared.UnknownNumber.{UnknownNumber}
 
--- the column "No." for each row's "Meaning"
-abbrev pub number_of : Outcome → ℕ
--- "done"
-number_of Done = 0
+-- the column "No." for each row's "Meaning", but for the first
+abbrev pub refusal_number : Refusal → ℕ
 -- "`InvalidVersion`"
-number_of InvalidVersion = 1
+refusal_number InvalidVersion = 1
 -- "`MemOutOfBound`"
-number_of MemOutOfBound = 2
+refusal_number MemOutOfBound = 2
 -- "`MemPageUnalignedAccess`"
-number_of MemPageUnalignedAccess = 3
+refusal_number MemPageUnalignedAccess = 3
 -- "`MemWriteOnExecutablePage`, also for an execute load from a page that isn't executable"
-number_of MemWriteOnExecutablePage = 4
+refusal_number MemWriteOnExecutablePage = 4
 -- "`MemWriteOnFreezedPage`"
-number_of MemWriteOnFreezedPage = 5
+refusal_number MemWriteOnFreezedPage = 5
 -- "`SnapshotDataLoadError`"
-number_of SnapshotDataLoadError = 6
+refusal_number SnapshotDataLoadError = 6
 -- "an absent page must be written and all slots are in use; given then only"
-number_of AllSlotsInUse = 7
+refusal_number AllSlotsInUse = 7
 -- "a lent output is too short"
-number_of OutputTooShort = 8
+refusal_number OutputTooShort = 8
 -- "memory size not a multiple of 4,096 or above the maximum, lent storage of a wrong length, or a page's
 -- slot number met that isn't in use"
-number_of BadStorage = 9
+refusal_number BadStorage = 9
 -- "register number 32 or more"
-number_of NoSuchRegister = 10
+refusal_number NoSuchRegister = 10
 -- "record file not in the form below"
-number_of BadRecordFile = 11
+refusal_number BadRecordFile = 11
+
+-- what a call answers that reads nothing
+abbrev pub Outcome : Type 0
+Outcome = Result (Unit {0}) Refusal
+
+-- the number of an answer: "0 | done"
+abbrev pub number_of : Outcome → ℕ
+number_of (Ok _) = 0
+number_of (Err refusal) = refusal_number refusal
 
 -- "0 | done"
 abbrev pub is_done : Outcome → Bool
 is_done o = eqb (number_of o) 0
+
+-- a number gives the refusal whose number it is, or is itself the error
+abbrev pub Names : ℕ → Result Refusal UnknownNumber → Type 0
+Names n (Ok refusal) = refusal_number refusal ≡ n
+Names n (Err unknown) = (unknown.0 ≡ n) × ((refusal : Refusal) → ¬ (refusal_number refusal ≡ n))

@@ -1,16 +1,17 @@
 -- No second outcome fits a promise: two that both meet the contract of a public function are the same.
-use mathlib.Core.Path.{◌≡◌, sym, ap, ◌∙◌}
-use mathlib.Core.List.{List}
+use mathlib.Core.Path.{◌≡◌, refl, sym, ap, ◌∙◌}
+use mathlib.Core.List.{List, [], ◌∷◌}
 use Prim.Native.Nat.{ℕ}
 use denote.Ref.{Bor}
-use Rattle.outcome.specs.declared.Outcome.{Outcome}
-use Rattle.outcome.specs.Numbers.{number_of}
+use Rattle.std.specs.Prelude.{Result, Option, Some, None}
+use Rattle.std.specs.Iterator.{YieldsFirst}
+use Rattle.outcome.specs.declared.Refusal.{Refusal}
+use Rattle.outcome.specs.Numbers.{Outcome, number_of}
 use Rattle.outcome.proofs.Numbers.{number_once}
 use Rattle.recordfile.specs.Records.{record_at, encoded}
 use Rattle.recordfile.specs.Form.{judged, capped, in_form}
-use Rattle.recordfile.specs.Reader.{next_to}
+use Rattle.recordfile.specs.Reader.{next_to, left}
 use Rattle.recordfile.specs.declared.Record.{Record}
-use Rattle.recordfile.specs.declared.form.Form as code
 use Rattle.recordfile.specs.declared.reader.Reader.{Reader}
 
 pub decode_once : (file : List ℕ) (i : ℕ) (r q : Record) → r ≡ record_at file i → q ≡ record_at file i → r ≡ q
@@ -19,7 +20,7 @@ decode_once file i r q e f = cc
 pub encode_once : (file : List ℕ) (i : ℕ) (entry : Record) (s t : List ℕ) → s ≡ encoded file i entry → t ≡ encoded file i entry → s ≡ t
 encode_once file i entry s t e f = cc
 
-pub judge_once : (file : List ℕ) (r q : code.Form) → r ≡ capped (judged file) → q ≡ capped (judged file) → r ≡ q
+pub judge_once : (file : List ℕ) (r q : Result (Option ℕ) Refusal) → r ≡ capped (judged file) → q ≡ capped (judged file) → r ≡ q
 judge_once file r q e f = cc
 
 -- by its number: no two cases share one
@@ -32,17 +33,23 @@ reader_once : (r q : Reader) → r.file ≡ q.file → r.at ≡ q.at → r ≡ q
 reader_once r q e f =
     ap (λ (x : Bor (List ℕ)). record { file = x; at = r.at }) e ∙ ap (λ (n : ℕ). record { file = q.file; at = n }) f
 
-pub start_once : (file : Bor (List ℕ)) (at : ℕ) (r q : Reader) → (r.file ≡ file) × (r.at ≡ at) → (q.file ≡ file) × (q.at ≡ at)
-    → r ≡ q
-start_once file at r q e f = reader_once r q (e.0 ∙ sym f.0) (e.1 ∙ sym f.1)
+pub start_once : (file : Bor (List ℕ)) (at : ℕ) (r q : Reader) → r.file ≡ file → r.at ≡ at → q.file ≡ file → q.at ≡ at → r ≡ q
+start_once file at r q e a f b = reader_once r q (e ∙ sym f) (a ∙ sym b)
 
-pub new_once : (file : Bor (List ℕ)) (r q : Reader) → (r.file ≡ file) × (r.at ≡ 0) → (q.file ≡ file) × (q.at ≡ 0) → r ≡ q
+pub new_once : (file : Bor (List ℕ)) (r q : Reader) → r.file ≡ file → r.at ≡ 0 → q.file ≡ file → q.at ≡ 0 → r ≡ q
 new_once file = start_once file 0
 
-pub next_once : (s : Reader) (r q : Record) → r ≡ record_at s.file.now s.at → q ≡ record_at s.file.now s.at → r ≡ q
-next_once s r q e f = cc
+pub peek_once : (s : Reader) (r q : Record) → r ≡ record_at s.file.now s.at → q ≡ record_at s.file.now s.at → r ≡ q
+peek_once s r q e f = cc
 
-pub moved_once : (s r q : Reader) → (r.file ≡ s.file) × (r.at ≡ next_to s.at) → (q.file ≡ s.file) × (q.at ≡ next_to s.at) → r ≡ q
+-- an item is the first record that is left, or there is none, and then those after it are left
+pub next_once : (s t u : Reader) (r q : Option Record) → YieldsFirst left s r t → YieldsFirst left s q u → (r ≡ q) × (left t ≡ left u)
+next_once s t u None None e f = (refl, e.1 ∙ sym f.1)
+next_once s t u None (Some y) e f = absurd (let z : [] ≡ y ∷ left u = sym e.0 ∙ f in cc)
+next_once s t u (Some x) None e f = absurd (let z : [] ≡ x ∷ left t = sym f.0 ∙ e in cc)
+next_once s t u (Some x) (Some y) e f = let z : x ∷ left t ≡ y ∷ left u = sym e ∙ f in (cc, cc)
+
+pub moved_once : (s r q : Reader) → r.file ≡ s.file → r.at ≡ next_to s.at → q.file ≡ s.file → q.at ≡ next_to s.at → r ≡ q
 moved_once s = start_once s.file (next_to s.at)
 
 pub read_at_once : (file : List ℕ) (at : ℕ) (r q : Record) → r ≡ record_at file at → q ≡ record_at file at → r ≡ q

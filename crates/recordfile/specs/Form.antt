@@ -1,12 +1,12 @@
 -- The form of a whole record file, and of the page file beside it.
-use Rattle.std.specs.Prelude.{cond, List, [], ◌∷◌, ℕ, zero, suc, ◌+◌, ◌*◌, ◌%◌, ◌^◌, length, eqb, ltb, leb}
+use Rattle.std.specs.Prelude.{cond, List, [], ◌∷◌, ℕ, zero, suc, ◌+◌, ◌*◌, ◌%◌, ◌^◌, length, eqb, ltb, leb, Result, Ok, Err, Option, Some, None}
 use Rattle.bits.specs.Rounding.{page_size}
+use Rattle.outcome.specs.declared.Refusal.{Refusal}
+use Rattle.outcome.specs.declared.Refusal.TheVariants.{BadRecordFile}
 use Rattle.recordfile.specs.Words.{record_bytes}
 use Rattle.recordfile.specs.Records.{count_in, records_in}
 use Rattle.recordfile.specs.declared.Record.{Record}
 use Rattle.recordfile.specs.declared.Record.TheVariants.{State, Registers, Source, Dirty, Bad}
-use Rattle.recordfile.specs.declared.form.Form as code
-use Rattle.recordfile.specs.declared.form.Form.TheVariants as variants
 
 -- "All else is 11.": not in the form; or in it, beside a page file of so many pages
 pub data Form : Type 0 where
@@ -84,6 +84,6 @@ unfoldable pub in_form : List ℕ → ℕ → ℕ
 in_form file size = beside (judged file) size
 
 -- the form as the code answers it: more pages than 2^64-1 have no number there
-abbrev pub capped : Form → code.Form
-capped malformed = variants.Malformed
-capped (needs pages) = cond (ltb pages (2 ^ 64)) (variants.Needs pages) variants.Beyond
+abbrev pub capped : Form → Result (Option ℕ) Refusal
+capped malformed = Err BadRecordFile
+capped (needs pages) = Ok (cond (ltb pages (2 ^ 64)) (Some pages) None)

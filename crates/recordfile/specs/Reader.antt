@@ -1,10 +1,17 @@
--- The position of a reader.
-use Rattle.std.specs.Prelude.{cond, ℕ, ◌+◌, ◌^◌, ◌-◌, ltb}
+-- The position of a reader, and the records that it has left.
+use Rattle.std.specs.Prelude.{cond, List, ℕ, ◌+◌, ◌^◌, ◌-◌, ltb}
+use Rattle.recordfile.specs.Records.{count_in, records_from}
+use Rattle.recordfile.specs.declared.Record.{Record}
+use Rattle.recordfile.specs.declared.reader.Reader.{Reader}
 
 -- the greatest position
 abbrev pub last_position : ℕ
 last_position = 2 ^ 64 - 1
 
 -- the position one record further; the greatest stays
-unfoldable pub next_to : ℕ → ℕ
+abbrev pub next_to : ℕ → ℕ
 next_to at = cond (ltb at last_position) (at + 1) at
+
+-- the records of a file from its position on
+abbrev pub left : Reader → List Record
+left r = records_from r.file.now r.at (count_in r.file.now - r.at)

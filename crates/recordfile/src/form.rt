@@ -1,147 +1,102 @@
 // The form of a whole record file, with its page file.
-ghost use Rattle.std.specs.Prelude.{◌≡◌, cond, ◌+◌, ◌-◌, ◌≤◌, length};
+ghost use Rattle.std.specs.Prelude.{◌≡◌, cond};
 ghost use Rattle.outcome.specs.Numbers.{number_of};
-ghost use Rattle.recordfile.specs.Records.{records_from, count_in};
-ghost use Rattle.recordfile.specs.Form.{malformed, registers_need, runs_need, dirty_needs, judged, capped, in_form, register_records, least_records};
+ghost use Rattle.recordfile.specs.Form.{malformed, registers_need, runs_need, judged, capped, in_form, register_records};
+ghost use Rattle.recordfile.specs.Reader.{left};
 
+use super::reader::Reader;
 use super::{
     LEAST_RECORDS, MOST_RECORDS, RECORD_BYTES, REGISTER_RECORDS, REGISTERS_A_RECORD, Record,
 };
 use bits::RISCV_PAGESIZE;
-use outcome::Outcome;
+use outcome::Refusal;
 
-// What a record file needs beside it: a page file of so many pages; one of more than 2^64-1; or it is not in the form.
-#[derive(Clone, Copy)]
-pub enum Form {
-    Needs(u64),
-    Beyond,
-    Malformed,
-}
-
-// Whether the register records stand after the first record, in order.
-fn registers_stand(file: &[u8]) -> bool
-    requires { least_records ≤ count_in file.now }
-    ensures { registers_need 0 register_records (records_from file.now 1 (count_in file.now - 1)) ≡ cond result (runs_need (records_from file.now least_records (count_in file.now - least_records))) malformed }
+// Whether the register records stand next, in order.
+fn registers_stand(records: &mut Reader) -> bool
+    ensures { registers_need 0 register_records (left records.old) ≡ cond result (runs_need (left records.new)) malformed }
 {
-    let mut i: usize = 0;
-    while i < REGISTER_RECORDS {
-        let Record::Registers {
-            first,
-            one: _,
-            two: _,
-            three: _,
-            four: _,
-        } = super::decode(file, i + 1)
-        else {
+    for i in 0..REGISTER_RECORDS {
+        let Some(entry) = records.next() else {
+            return false;
+        };
+        let Record::Registers { first, .. } = entry else {
             return false;
         };
         if first != i as u64 * REGISTERS_A_RECORD {
             return false;
         }
-        i += 1;
     }
     true
 }
 
-// The first record after the source runs.
-fn sources_end(file: &[u8], count: usize) -> usize
-    requires count_value { count ≡ count_in file.now }
-    requires least_records_le_count { least_records ≤ count }
-    ensures least_records_value { runs_need (records_from file.now least_records (count - least_records)) ≡ dirty_needs 0 (records_from file.now result (count - result)) }
-    ensures upper_bound { result ≤ count }
+// The pages that the runs need which are left: source runs, then dirty runs.
+fn runs_need(records: Reader) -> Result<Option<u64>, Refusal>
+    ensures { result ≡ capped (runs_need (left records.entry)) }
 {
-    let mut i = LEAST_RECORDS;
-    while i < count {
-        let Record::Source {
-            address: _,
-            flag: _,
-            id: _,
-            offset: _,
-            size: _,
-        } = super::decode(file, i)
-        else {
-            return i;
-        };
-        i += 1;
-    }
-    i
-}
-
-// The pages that the dirty runs need, from a record on.
-fn dirty_needs(file: &[u8], from: usize, count: usize) -> Form
-    requires from_le_count { from ≤ count }
-    requires count_value { count ≡ count_in file.now }
-    ensures { result ≡ capped (dirty_needs 0 (records_from file.now from (count - from))) }
-{
-    let mut sum: u64 = 0;
-    let mut i = from;
-    while i < count {
-        let Record::Dirty {
-            address: _,
-            flag: _,
-            pages,
-            place,
-        } = super::decode(file, i)
-        else {
-            return Form::Malformed;
-        };
-        if place != sum {
-            return Form::Malformed;
-        }
-        if u64::MAX - sum < pages {
-            if i + 1 < count {
-                return Form::Malformed;
+    let mut dirty = false;
+    let mut sum = Some(0u64);
+    for entry in records {
+        match entry {
+            Record::Source { .. } => {
+                if dirty {
+                    return Err(Refusal::BadRecordFile);
+                }
             }
-            return Form::Beyond;
+            Record::Dirty { pages, place, .. } => {
+                let Some(before) = sum else {
+                    return Err(Refusal::BadRecordFile);
+                };
+                if place != before {
+                    return Err(Refusal::BadRecordFile);
+                }
+                dirty = true;
+                sum = before.checked_add(pages);
+            }
+            _ => return Err(Refusal::BadRecordFile),
         }
-        sum += pages;
-        i += 1;
     }
-    Form::Needs(sum)
+    Ok(sum)
 }
 
-// What a record file needs beside it.
-pub fn judge(file: &[u8]) -> Form
+// The pages of the page file that a record file needs beside it; where they pass 2^64-1, `None`.
+pub fn judge(file: &[u8]) -> Result<Option<u64>, Refusal>
     ensures { result ≡ capped (judged file.now) }
 {
     if file.len() % RECORD_BYTES != 0 {
-        return Form::Malformed;
+        return Err(Refusal::BadRecordFile);
     }
     let count = file.len() / RECORD_BYTES;
     if count < LEAST_RECORDS {
-        return Form::Malformed;
+        return Err(Refusal::BadRecordFile);
     }
     if count > MOST_RECORDS {
-        return Form::Malformed;
+        return Err(Refusal::BadRecordFile);
     }
-    let Record::State {
-        version: _,
-        pc: _,
-        cycles: _,
-        maximum: _,
-        reservation: _,
-    } = super::decode(file, 0)
-    else {
-        return Form::Malformed;
+    let mut records = Reader::new(file);
+    let Some(entry) = records.next() else {
+        return Err(Refusal::BadRecordFile);
     };
-    if registers_stand(file) {
-        return dirty_needs(file, sources_end(file, count), count);
+    let Record::State { .. } = entry else {
+        return Err(Refusal::BadRecordFile);
+    };
+    if registers_stand(&mut records) {
+        runs_need(records)
+    } else {
+        Err(Refusal::BadRecordFile)
     }
-    Form::Malformed
 }
 
 // Whether a record file is in the form, beside a page file of so many bytes.
-pub fn in_form(file: &[u8], pages: usize) -> Outcome
+pub fn in_form(file: &[u8], pages: usize) -> Result<(), Refusal>
     ensures { number_of result ≡ in_form file.now pages }
 {
-    let Form::Needs(count) = judge(file) else {
-        return Outcome::BadRecordFile;
-    };
+    let needed = judge(file)?;
     if pages % RISCV_PAGESIZE != 0 {
-        return Outcome::BadRecordFile;
+        return Err(Refusal::BadRecordFile);
     }
-    if (pages / RISCV_PAGESIZE) as u64 == count {
-        return Outcome::Done;
+    if needed == Some((pages / RISCV_PAGESIZE) as u64) {
+        Ok(())
+    } else {
+        Err(Refusal::BadRecordFile)
     }
-    Outcome::BadRecordFile
 }

@@ -1,11 +1,11 @@
-// Record files: the 48-byte records of a snapshot, the form of a whole file, and a reader.
+// Record files: the 48-byte records of a snapshot, the form of a whole file, and a reader of its records.
 //
 // Document 01, "Snapshot and resume", from "Record file" on. A record file is records with no header, each six little-endian
 // words of 64 bits; the page file beside it holds the dirty pages one after another.
 //
 //   lib      a record, decoded from its words and encoded into them
 //   form     whether a whole file, with its page file, is in the form
-//   reader   a reader that holds a file and its position
+//   reader   a reader that holds a file and its position, and is the iterator of the records that are left
 //
 // What a record says is `record_at` (specs/Records.antt), the form is `judged` (specs/Form.antt), and the snapshot that two files
 // hold is `snapshot_in` (specs/Snapshots.antt). That reading and writing undo each other is proofs/RoundTrip.antt.
@@ -17,7 +17,7 @@ pub mod reader;
 ghost use Rattle.std.specs.Prelude.{◌≡◌, ◌+◌, ◌≤◌, length};
 ghost use Rattle.words.specs.Bytes.{written};
 ghost use Rattle.recordfile.specs.Words.{record_words, record_bytes, image, words_at};
-ghost use Rattle.recordfile.specs.Records.{record_of, words_of, record_at, encoded};
+ghost use Rattle.recordfile.specs.Records.{of_words, words_of, record_at, encoded};
 
 // The bytes of a word.
 pub const WORD_BYTES: usize = 8;
@@ -39,7 +39,7 @@ pub const LEAST_RECORDS: usize = 9;
 
 pub const MOST_RECORDS: usize = 1033;
 
-// The kinds, word 0.
+// The kinds, word 0. Constants: an enum of them would be `Record` once more, without its fields.
 const STATE: u64 = 1;
 
 const REGISTERS: u64 = 2;
@@ -53,7 +53,8 @@ const VERSIONS: u64 = 4294967296;
 
 const FLAGS: u64 = 256;
 
-// A record; `Bad` is what is none.
+// A record; `Bad` is what is none. Not an Option, four registers and no array, fields and no structs in the variants: specs/Records,
+// Form and Snapshots, and the theorems on them, speak of these variants and fields.
 #[derive(Clone, Copy)]
 pub enum Record {
     State {
@@ -86,137 +87,124 @@ pub enum Record {
     Bad,
 }
 
-// The words from a byte on.
+// The words from a byte on. A part of the file is no plainer: `record_at` reads the whole file at a position, and `read_le` too.
 fn read_words(file: &[u8], at: usize) -> [u64; RECORD_WORDS]
     requires { at + record_bytes ≤ length file.now }
     ensures { result ≡ words_at file.now at record_words }
 {
     let mut words = [0u64; RECORD_WORDS];
-    let mut i: usize = 0;
-    while i < RECORD_WORDS {
+    for i in 0..RECORD_WORDS {
         words[i] = words::read_le(file, at + i * WORD_BYTES, WORD_BYTES);
-        i += 1;
     }
     words
 }
 
-// Words, written from a byte on.
+// Words, written from a byte on. A part of the file is no plainer: `encoded` writes into the whole file, and `write_le` too.
+#[tactic(auto, using(crate::proofs::Decoding::write_none, crate::proofs::Decoding::write_more, crate::proofs::Decoding::write_done))]
 fn write_words(file: &mut [u8], at: usize, words: [u64; RECORD_WORDS])
     requires { at + record_bytes ≤ length file.old }
     ensures { file.new ≡ written file.old at (image words) }
 {
-    let mut i: usize = 0;
-    while i < RECORD_WORDS {
+    for i in 0..RECORD_WORDS {
         words::write_le(file, at + i * WORD_BYTES, WORD_BYTES, words[i]);
-        i += 1;
     }
 }
 
 // The record that six words are.
-fn record_of(kind: u64, a: u64, b: u64, c: u64, d: u64, e: u64) -> Record
-    ensures { result ≡ record_of kind a b c d e }
-{
-    if kind == STATE {
-        if a < VERSIONS {
-            return Record::State {
+impl From<[u64; RECORD_WORDS]> for Record {
+    ghost from_gives = { λ words entry. entry ≡ of_words words };
+
+    #[tactic(auto, unfolding(crate::specs::Records::record_of))]
+    fn from(words: [u64; RECORD_WORDS]) -> Self {
+        let [kind, a, b, c, d, e] = words;
+        match kind {
+            STATE if a < VERSIONS => Record::State {
                 version: a as u32,
                 pc: b,
                 cycles: c,
                 maximum: d,
                 reservation: e,
-            };
-        }
-        return Record::Bad;
-    }
-    if kind == REGISTERS {
-        return Record::Registers {
-            first: a,
-            one: b,
-            two: c,
-            three: d,
-            four: e,
-        };
-    }
-    if kind == SOURCE {
-        if b < FLAGS {
-            return Record::Source {
+            },
+            REGISTERS => Record::Registers {
+                first: a,
+                one: b,
+                two: c,
+                three: d,
+                four: e,
+            },
+            SOURCE if b < FLAGS => Record::Source {
                 address: a,
                 flag: b as u8,
                 id: c,
                 offset: d,
                 size: e,
-            };
+            },
+            DIRTY if b < FLAGS && e == 0 => Record::Dirty {
+                address: a,
+                flag: b as u8,
+                pages: c,
+                place: d,
+            },
+            _ => Record::Bad,
         }
-        return Record::Bad;
     }
-    if kind == DIRTY {
-        if b < FLAGS {
-            if e == 0 {
-                return Record::Dirty {
-                    address: a,
-                    flag: b as u8,
-                    pages: c,
-                    place: d,
-                };
-            }
-        }
-        return Record::Bad;
-    }
-    Record::Bad
 }
 
-// Record `i` of a file.
+// Record `i` of a file. By its number, beside `read_at`: it may not change, docs/PROMISES.md names both.
+#[tactic(auto, unfolding(crate::specs::Records::record_at))]
 pub fn decode(file: &[u8], i: usize) -> Record
     ensures { result ≡ record_at file.now i }
 {
     if i >= file.len() / RECORD_BYTES {
         return Record::Bad;
     }
-    let words = read_words(file, i * RECORD_BYTES);
-    record_of(words[0], words[1], words[2], words[3], words[4], words[5])
+    Record::from(read_words(file, i * RECORD_BYTES))
 }
 
 // A record's words; of `Bad`, which has none, zeros.
-fn words_of(entry: Record) -> [u64; RECORD_WORDS]
-    ensures { result ≡ words_of entry }
-{
-    match entry {
-        Record::State {
-            version,
-            pc,
-            cycles,
-            maximum,
-            reservation,
-        } => [STATE, version as u64, pc, cycles, maximum, reservation],
-        Record::Registers {
-            first,
-            one,
-            two,
-            three,
-            four,
-        } => [REGISTERS, first, one, two, three, four],
-        Record::Source {
-            address,
-            flag,
-            id,
-            offset,
-            size,
-        } => [SOURCE, address, flag as u64, id, offset, size],
-        Record::Dirty {
-            address,
-            flag,
-            pages,
-            place,
-        } => [DIRTY, address, flag as u64, pages, place, 0],
-        Record::Bad => [0, 0, 0, 0, 0, 0],
+impl From<Record> for [u64; RECORD_WORDS] {
+    ghost from_gives = { λ entry words. words ≡ words_of entry };
+
+    fn from(entry: Record) -> Self {
+        match entry {
+            Record::State {
+                version,
+                pc,
+                cycles,
+                maximum,
+                reservation,
+            } => [STATE, u64::from(version), pc, cycles, maximum, reservation],
+            Record::Registers {
+                first,
+                one,
+                two,
+                three,
+                four,
+            } => [REGISTERS, first, one, two, three, four],
+            Record::Source {
+                address,
+                flag,
+                id,
+                offset,
+                size,
+            } => [SOURCE, address, u64::from(flag), id, offset, size],
+            Record::Dirty {
+                address,
+                flag,
+                pages,
+                place,
+            } => [DIRTY, address, u64::from(flag), pages, place, 0],
+            Record::Bad => [0; RECORD_WORDS],
+        }
     }
 }
 
-// Writes record `i` of a file; past the file's last record nothing.
+// Writes record `i` of a file; past the file's last record nothing. By its number: it may not change, docs/PROMISES.md names it.
+#[tactic(auto, unfolding(crate::specs::Records::encoded))]
 pub fn encode(file: &mut [u8], i: usize, entry: Record)
     ensures { file.new ≡ encoded file.old i entry }
 {
     if i < file.len() / RECORD_BYTES {
-        write_words(file, i * RECORD_BYTES, words_of(entry));
+        write_words(file, i * RECORD_BYTES, entry.into());
     }
 }

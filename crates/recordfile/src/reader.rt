@@ -1,61 +1,74 @@
-// A reader that holds a record file and its position, over `decode`.
+// A reader that holds a record file and its position: the file's records one by one, as an iterator.
 ghost use Rattle.std.specs.Prelude.{◌≡◌};
+ghost use Rattle.std.specs.Iterator.{YieldsFirst, item_count};
 ghost use Rattle.recordfile.specs.Records.{record_at};
-ghost use Rattle.recordfile.specs.Reader.{next_to};
+ghost use Rattle.recordfile.specs.Reader.{next_to, left};
 
-use super::Record;
+use super::{RECORD_BYTES, Record};
 
-// A record file, and the number of the record that is read next.
+// A record file, and the number of the record that is read next: the two fields of which the clauses of `start`, `peek` and
+// `moved` speak, which docs/PROMISES.md has.
 #[derive(Clone, Copy)]
 pub struct Reader<'a> {
     pub file: &'a [u8],
     pub at: usize,
 }
 
-// The number after this one; the last that there is stays.
-fn after(at: usize) -> usize
-    ensures { result ≡ next_to at }
-{
-    if at < usize::MAX {
-        return at + 1;
+impl<'a> Reader<'a> {
+    // A reader at a record.
+    pub fn start(file: &'a [u8], at: usize) -> Self
+        ensures same_file { result.file ≡ file.entry }
+        ensures position { result.at ≡ at }
+    {
+        Reader { file, at }
     }
-    at
-}
 
-// A reader at a record.
-pub fn start<'a>(file: &'a [u8], at: usize) -> Reader<'a>
-    ensures { (result.file ≡ file.entry) × (result.at ≡ at) }
-{
-    Reader { file, at }
-}
+    // A reader at the first record: a name of its own, as docs/PROMISES.md has both.
+    pub fn new(file: &'a [u8]) -> Self
+        ensures same_file { result.file ≡ file.entry }
+        ensures position { result.at ≡ 0 }
+    {
+        Reader::start(file, 0)
+    }
 
-// A reader at the first record.
-pub fn new<'a>(file: &'a [u8]) -> Reader<'a>
-    ensures { (result.file ≡ file.entry) × (result.at ≡ 0) }
-{
-    Reader { file, at: 0 }
-}
+    // The record at its position; past the last, none.
+    pub fn peek(&self) -> Record
+        ensures { result ≡ record_at self.now.file.now self.now.at }
+    {
+        super::decode(self.file, self.at)
+    }
 
-// The record at its position.
-pub fn next<'a>(r: Reader<'a>) -> Record
-    ensures { result ≡ record_at r.entry.file.now r.entry.at }
-{
-    super::decode(r.file, r.at)
-}
-
-// The reader one record further.
-pub fn moved<'a>(r: Reader<'a>) -> Reader<'a>
-    ensures { (result.file ≡ r.entry.file) × (result.at ≡ next_to r.entry.at) }
-{
-    Reader {
-        file: r.file,
-        at: after(r.at),
+    // The reader one record further; the last position that there is stays.
+    pub fn moved(self) -> Self
+        ensures same_file { result.file ≡ self.entry.file }
+        ensures position { result.at ≡ next_to self.entry.at }
+    {
+        Reader::start(self.file, self.at.saturating_add(1))
     }
 }
 
-// The record at a position of a file.
+// The records from its position on.
+impl<'a> Iterator for Reader<'a> {
+    type Item = Record;
+
+    ghost next_gives = { YieldsFirst left };
+
+    ghost remaining = { item_count left };
+
+    #[tactic(auto, unfolding(crate::specs::Records::records_from))]
+    fn next(&mut self) -> Option<Record> {
+        if self.at >= self.file.len() / RECORD_BYTES {
+            return None;
+        }
+        let entry = self.peek();
+        self.at += 1;
+        Some(entry)
+    }
+}
+
+// The record at a position of a file. With the promise of `decode`: it may not change, docs/PROMISES.md names both.
 pub fn read_at(file: &[u8], at: usize) -> Record
     ensures { result ≡ record_at file.now at }
 {
-    next(start(file, at))
+    Reader::start(file, at).peek()
 }

@@ -2,25 +2,30 @@
 //
 // "Session A: 4 pages, version 1, maximum 1,000, fresh; item 7 has 10,000 bytes; context store at 100, offset 0, length 10,000, size
 // address 16,376." Its record file is printed by snaplist's own functions; the files are then resumed on a second machine, and
-// everything that a call can see of the two is compared.
+// everything that a call can see of the two is compared. What is lent stands in local arrays of a fixed size: no heap.
 #![tactic(auto)]
 
 ghost use Rattle.std.specs.Prelude.{◌≡◌, take, OnOk};
 ghost use Rattle.std.specs.Bool.{Decides};
 ghost use Rattle.std.specs.Io.KnownBytes.{Appends};
-ghost use Rattle.tracking.specs.declared.records.Tracking.TheVariants.{Untracked};
 ghost use Rattle.session.specs.Alike.{TrackedAlike};
 ghost use Rattle.session.specs.Said.{said, compared, listed};
 ghost use Rattle.streams.specs.Fronts.{AppendsFront};
 
+use bits::RISCV_PAGESIZE;
 use listing::MOST_TEXT;
 use machine::Machine;
-use outcome::Outcome;
+use memory::storage::{Lent, Storage};
+use outcome::Refusal;
 use recordfile::{MOST_RECORDS, RECORD_BYTES};
+use snapshot::make::{Made, Outputs};
+use snapshot::resume::Files;
 use std::env::{Env, FillError};
 use std::io;
 use std::io::Write;
-use tracking::records::Tracking;
+use tracking::records::entry_at;
+use tracking::sources::Sources;
+use tracking::storage::{TrackedLent, TrackedStorage};
 
 // The pages of both machines, and their bytes.
 const PAGES: usize = 4;
@@ -47,13 +52,89 @@ const SIZE_ADDRESS: u64 = 16376;
 // The bytes lent for a record file.
 const FILE: usize = 1024;
 
-const PAGE_BYTES: usize = 4096;
-
-// The bytes that a snapshot wrote of each file.
+// A machine, and what it is lent.
 #[derive(Clone, Copy)]
-struct Written {
-    file: usize,
-    pages: usize,
+struct Host {
+    slots: [u16; PAGES],
+    flags: [u8; PAGES],
+    area: [u8; BYTES],
+    records: [u64; RECORDS],
+    machine: Machine,
+}
+
+impl Host {
+    // A fresh machine.
+    fn fresh(maximum: u64) -> Result<Self, Refusal> {
+        // Arrays of a fixed size, here and below: no heap.
+        let mut slots = [0u16; PAGES];
+        let mut flags = [0u8; PAGES];
+        let mut area = [0u8; BYTES];
+        let mut records = [0u64; RECORDS];
+        let mut storage = Storage {
+            slots: &mut slots,
+            flags: &mut flags,
+            area: &mut area,
+        };
+        let machine = Machine::fresh(&mut storage, &mut records, BYTES as u64, VERSION, maximum)?;
+        Ok(Host {
+            slots,
+            flags,
+            area,
+            records,
+            machine,
+        })
+    }
+
+    // What is lent, to be read.
+    fn lent(&self) -> TrackedLent<'_> {
+        TrackedLent {
+            slots: &self.slots,
+            flags: &self.flags,
+            area: &self.area,
+            records: &self.records,
+        }
+    }
+
+    // It stores the item.
+    fn store(&mut self, sources: Sources) -> Result<(), Refusal> {
+        let mut tracked = TrackedStorage {
+            slots: &mut self.slots,
+            flags: &mut self.flags,
+            area: &mut self.area,
+            records: &mut self.records,
+        };
+        tracked.store_bytes(
+            &mut self.machine.memory,
+            sources,
+            ADDRESS,
+            ITEM,
+            0,
+            ITEM_BYTES as u64,
+            SIZE_ADDRESS,
+        )?;
+        Ok(())
+    }
+
+    // It is resumed.
+    fn resume(&mut self, sources: Sources, files: Files) -> Result<(), Refusal> {
+        let mut tracked = TrackedStorage {
+            slots: &mut self.slots,
+            flags: &mut self.flags,
+            area: &mut self.area,
+            records: &mut self.records,
+        };
+        snapshot::resume::resume(&mut tracked, sources, files, &mut self.machine)
+    }
+
+    // All bytes of its memory, read by its own call; where that refuses, the output stays as it was.
+    fn read_all(&self, out: &mut [u8]) -> Result<(), Refusal> {
+        let lent = Lent {
+            slots: &self.slots,
+            flags: &self.flags,
+            area: &self.area,
+        };
+        self.machine.memory.load_bytes(lent, out, 0, BYTES as u64)
+    }
 }
 
 // The front of a slice, as far as it is there.
@@ -61,20 +142,21 @@ struct Written {
 fn front(bytes: &[u8], size: usize) -> &[u8]
     ensures { result.now ≡ take size bytes.now }
 {
-    let end = words::least(size, bytes.len());
-    &bytes[0..end]
+    &bytes[..size.min(bytes.len())]
 }
 
+// ---- said
+
 // What a call answered.
-fn say_outcome<W: Write>(writer: &mut W, outcome: Outcome) -> io::Result<()> {
-    if outcome::is_done(outcome) {
+fn say_outcome<W: Write>(writer: &mut W, outcome: Result<(), Refusal>) -> io::Result<()> {
+    let Err(refusal) = outcome else {
         return writeln!(writer, "done");
-    }
-    let number = outcome::number(outcome);
+    };
+    let number = u32::from(refusal);
     writeln!(writer, "refused, {number}")
 }
 
-// Whether what was compared is equal, in words.
+// Whether what was compared is equal, in words. No `Display`: `said` of specs/Said is promised of it.
 #[tactic(auto, unfolding(crate::specs::Said::said))]
 fn said(equal: bool) -> &'static str
     ensures { result.now ≡ said equal }
@@ -83,6 +165,8 @@ fn said(equal: bool) -> &'static str
 }
 
 // What was compared, and whether it is equal. After a failed write a front of the line is written.
+// Part by part: `writeln!` promises no front, and a list of the parts was tried: the check covers no array of slices of several
+// lifetimes.
 fn say_equal<W: Write>(writer: &mut W, what: &[u8], equal: bool) -> io::Result<()>
     ensures all { OnOk result (Appends (W.contents writer.old) (W.contents writer.new) (compared what.now equal)) }
     ensures front { AppendsFront (W.contents writer.old) (W.contents writer.new) (compared what.now equal) }
@@ -95,59 +179,26 @@ fn say_equal<W: Write>(writer: &mut W, what: &[u8], equal: bool) -> io::Result<(
     streams::write_full(writer, b"\n")
 }
 
-// Readings: bytes that a page of zeros or a shifted page would not match.
-fn readings() -> [u8; ITEM_BYTES] {
-    let mut bytes = [0u8; ITEM_BYTES];
-    let mut x: u64 = 1;
-    let mut i: usize = 0;
-    while i < ITEM_BYTES {
-        x = (x * 1103515245 + 12345) % 2147483648;
-        bytes[i] = (x / 65536 % 256) as u8;
-        i += 1;
-    }
-    bytes
+// The text of a record file. After a failed write a front of it is written.
+fn list<W: Write>(writer: &mut W, file: &[u8]) -> io::Result<()>
+    ensures all { OnOk result (Appends (W.contents writer.old) (W.contents writer.new) (listed file.now)) }
+    ensures front { AppendsFront (W.contents writer.old) (W.contents writer.new) (listed file.now) }
+{
+    let mut text = [0u8; MOST_TEXT];
+    let size = listing::list(file, &mut text).unwrap_or(0);
+    streams::write_full(writer, b"The record file, as snaplist lists it:\n")?;
+    streams::write_full(writer, front(&text, size))
 }
 
 // ---- compared
 
-fn same_entry(one: Tracking, two: Tracking) -> bool
-    ensures { Decides result (one ≡ two) }
+fn same_tracking(one: TrackedLent, two: TrackedLent) -> bool
+    ensures { Decides result (TrackedAlike 4 one.entry.flags.now one.entry.records.now two.entry.flags.now two.entry.records.now) }
 {
-    let Tracking::Tracked(id, offset, flag) = one else {
-        return untracked(two);
-    };
-    let Tracking::Tracked(other, place, recorded) = two else {
-        return false;
-    };
-    if id != other {
-        return false;
-    }
-    if offset != place {
-        return false;
-    }
-    flag == recorded
-}
-
-fn untracked(entry: Tracking) -> bool
-    ensures { Decides result (entry ≡ Untracked) }
-{
-    let Tracking::Tracked(_, _, _) = entry else {
-        return true;
-    };
-    false
-}
-
-fn same_tracking(flags: &[u8], records: &[u64], flags2: &[u8], records2: &[u64]) -> bool
-    ensures { Decides result (TrackedAlike 4 flags.now records.now flags2.now records2.now) }
-{
-    let mut page: u64 = 0;
-    while page < PAGES as u64 {
-        let one = tracking::records::entry_at(flags, records, page);
-        let two = tracking::records::entry_at(flags2, records2, page);
-        if same_entry(one, two) {} else {
+    for page in 0..PAGES as u64 {
+        if entry_at(one.flags, one.records, page) != entry_at(two.flags, two.records, page) {
             return false;
         }
-        page += 1;
     }
     true
 }
@@ -162,273 +213,131 @@ fn same_numbers(one: Machine, two: Machine) -> bool
     ensures { Decides result ((one.pc ≡ two.pc) × (one.next_pc ≡ two.next_pc) × (one.version ≡ two.version)
         × (one.cycles ≡ two.cycles) × (one.max_cycles ≡ two.max_cycles) × (one.memory.reservation ≡ two.memory.reservation)) }
 {
-    if one.pc != two.pc {
-        return false;
-    }
-    if one.next_pc != two.next_pc {
-        return false;
-    }
-    if one.version != two.version {
-        return false;
-    }
-    if one.cycles != two.cycles {
-        return false;
-    }
-    if one.max_cycles != two.max_cycles {
-        return false;
-    }
-    memory::wxorx::lr(one.memory) == memory::wxorx::lr(two.memory)
+    (
+        one.pc,
+        one.next_pc,
+        one.version,
+        one.cycles,
+        one.max_cycles,
+        one.memory.lr(),
+    ) == (
+        two.pc,
+        two.next_pc,
+        two.version,
+        two.cycles,
+        two.max_cycles,
+        two.memory.lr(),
+    )
+}
+
+// Everything that a call can see of two machines.
+fn compare<W: Write>(writer: &mut W, one: &Host, two: &Host) -> io::Result<()> {
+    let mut bytes = [0u8; BYTES];
+    let mut others = [0u8; BYTES];
+    let read = one.read_all(&mut bytes).and(two.read_all(&mut others));
+    writeln!(writer, "The two machines:")?;
+    say_equal(writer, b"bytes", read.is_ok() && bytes == others)?;
+    say_equal(writer, b"flags", one.flags == two.flags)?;
+    say_equal(
+        writer,
+        b"tracked pages",
+        same_tracking(one.lent(), two.lent()),
+    )?;
+    say_equal(
+        writer,
+        b"registers",
+        same_registers(one.machine, two.machine),
+    )?;
+    say_equal(
+        writer,
+        b"pc, version, cycles, maximum, reservation",
+        same_numbers(one.machine, two.machine),
+    )
 }
 
 // ---- told
 
-// A machine is fresh.
-fn start<W: Write>(
-    writer: &mut W,
-    slots: &mut [u16],
-    flags: &mut [u8],
-    area: &mut [u8],
-    records: &mut [u64],
-    maximum: u64,
-) -> io::Result<Machine> {
-    let fresh = machine::fresh(slots, flags, area, records, BYTES as u64, VERSION, maximum);
-    let outcome = fresh.outcome;
-    say_outcome(writer, outcome)?;
-    Ok(fresh.machine)
+// Readings: bytes that a page of zeros or a shifted page would not match.
+fn readings() -> [u8; ITEM_BYTES] {
+    let mut bytes = [0u8; ITEM_BYTES];
+    let mut x: u64 = 1;
+    for byte in &mut bytes {
+        x = (x * 1103515245 + 12345) % 2147483648;
+        *byte = (x / 65536 % 256) as u8;
+    }
+    bytes
 }
 
-// It stores the item.
-fn load<W: Write>(
-    writer: &mut W,
-    slots: &mut [u16],
-    flags: &mut [u8],
-    area: &mut [u8],
-    records: &mut [u64],
-    directory: &[u64],
-    sources: &[u8],
-    one: Machine,
-) -> io::Result<Machine> {
-    let memory = one.memory;
-    let stored = tracking::context::store_bytes(
-        slots,
-        flags,
-        area,
-        records,
-        directory,
-        sources,
-        memory,
-        ADDRESS,
-        ITEM,
-        0,
-        ITEM_BYTES as u64,
-        SIZE_ADDRESS,
-    );
-    let outcome = stored.outcome;
-    say_outcome(writer, outcome)?;
-    let next = stored.memory;
-    Ok(one.with_memory(next))
+// A machine is fresh, if that is not refused.
+fn start<W: Write>(writer: &mut W, maximum: u64) -> io::Result<Option<Host>> {
+    let fresh = Host::fresh(maximum);
+    say_outcome(writer, fresh.map(|_| ()))?;
+    Ok(fresh.ok())
 }
 
-// Both: the first machine, until it is stopped.
+// The first machine, until it is stopped.
 fn first<W: Write>(
     writer: &mut W,
-    slots: &mut [u16],
-    flags: &mut [u8],
-    area: &mut [u8],
-    records: &mut [u64],
-    directory: &[u64],
-    sources: &[u8],
-) -> io::Result<Machine> {
+    sources: Sources,
+    outputs: &mut Outputs,
+) -> io::Result<Option<(Host, Made)>> {
     write!(
         writer,
         "A machine of 4 pages, version 1, 1000 cycles at most, is fresh: "
     )?;
-    let one = start(writer, slots, flags, area, records, MAXIMUM)?;
+    let Some(mut one) = start(writer, MAXIMUM)? else {
+        return Ok(None);
+    };
     write!(
         writer,
         "It stores the 10000 bytes of item 7 at 100, and how many they are at 16376: "
     )?;
-    load(writer, slots, flags, area, records, directory, sources, one)
-}
-
-// It is stopped: what was written of the two files.
-fn stop<W: Write>(
-    writer: &mut W,
-    slots: &[u16],
-    flags: &[u8],
-    area: &[u8],
-    records: &[u64],
-    file: &mut [u8],
-    pages: &mut [u8],
-    one: Machine,
-) -> io::Result<Written> {
+    say_outcome(writer, one.store(sources))?;
     write!(writer, "It is stopped, and a snapshot taken: ")?;
-    let made = snapshot::make::make_snapshot(slots, flags, area, records, file, pages, one);
-    let outcome = made.outcome;
-    say_outcome(writer, outcome)?;
-    Ok(Written {
-        file: words::least(made.records as usize, MOST_RECORDS) * RECORD_BYTES,
-        pages: words::least(made.pages as usize, PAGES) * PAGE_BYTES,
-    })
+    let made = snapshot::make::make_snapshot(one.lent(), outputs, one.machine);
+    say_outcome(writer, made.map(|_| ()))?;
+    Ok(made.ok().map(|made| (one, made)))
 }
 
-// The text of a record file. After a failed write a front of it is written.
-fn list<W: Write>(writer: &mut W, file: &[u8]) -> io::Result<()>
-    ensures all { OnOk result (Appends (W.contents writer.old) (W.contents writer.new) (listed file.now)) }
-    ensures front { AppendsFront (W.contents writer.old) (W.contents writer.new) (listed file.now) }
-{
-    let mut text = [0u8; MOST_TEXT];
-    let listed = listing::list(file, &mut text);
-    let size = listed.size;
-    streams::write_full(writer, b"The record file, as snaplist lists it:\n")?;
-    streams::write_full(writer, front(&text, size))
-}
-
-// A machine is resumed.
-fn go_on<W: Write>(
-    writer: &mut W,
-    slots: &mut [u16],
-    flags: &mut [u8],
-    area: &mut [u8],
-    records: &mut [u64],
-    directory: &[u64],
-    sources: &[u8],
-    file: &[u8],
-    pages: &[u8],
-    two: Machine,
-) -> io::Result<Machine> {
-    let resumed = snapshot::resume::resume(
-        slots, flags, area, records, directory, sources, file, pages, two,
-    );
-    let outcome = resumed.outcome;
-    say_outcome(writer, outcome)?;
-    Ok(resumed.machine)
-}
-
-// A second machine is fresh, and resumed.
-fn second<W: Write>(
-    writer: &mut W,
-    slots: &mut [u16],
-    flags: &mut [u8],
-    area: &mut [u8],
-    records: &mut [u64],
-    directory: &[u64],
-    sources: &[u8],
-    file: &[u8],
-    pages: &[u8],
-) -> io::Result<Machine> {
+// A second machine, elsewhere, goes on.
+fn second<W: Write>(writer: &mut W, sources: Sources, files: Files) -> io::Result<Option<Host>> {
     write!(writer, "A second machine, elsewhere, is fresh: ")?;
-    let two = start(writer, slots, flags, area, records, 0)?;
+    let Some(mut two) = start(writer, 0)? else {
+        return Ok(None);
+    };
     write!(writer, "It is resumed from the two files and the sources: ")?;
-    go_on(
-        writer, slots, flags, area, records, directory, sources, file, pages, two,
-    )
+    say_outcome(writer, two.resume(sources, files))?;
+    Ok(Some(two))
 }
 
-// All bytes of a machine's memory, read by its own call; where that refuses, the output stays as it was.
-fn read_all(slots: &[u16], flags: &[u8], area: &[u8], out: &mut [u8], one: Machine) {
-    let memory = one.memory;
-    memory::wxorx::load_bytes(slots, flags, area, out, memory, 0, BYTES as u64);
-}
-
-// Everything that a call can see of two machines.
-fn compare<W: Write>(
-    writer: &mut W,
-    slots: &[u16],
-    flags: &[u8],
-    area: &[u8],
-    records: &[u64],
-    slots2: &[u16],
-    flags2: &[u8],
-    area2: &[u8],
-    records2: &[u64],
-    one: Machine,
-    two: Machine,
-) -> io::Result<()> {
-    let mut bytes = [0u8; BYTES];
-    let mut bytes2 = [255u8; BYTES];
-    read_all(slots, flags, area, &mut bytes, one);
-    read_all(slots2, flags2, area2, &mut bytes2, two);
-    writeln!(writer, "The two machines:")?;
-    say_equal(writer, b"bytes", bytes == bytes2)?;
-    say_equal(writer, b"flags", flags == flags2)?;
-    say_equal(
-        writer,
-        b"tracked pages",
-        same_tracking(flags, records, flags2, records2),
-    )?;
-    say_equal(writer, b"registers", same_registers(one, two))?;
-    say_equal(
-        writer,
-        b"pc, version, cycles, maximum, reservation",
-        same_numbers(one, two),
-    )
-}
-
-// The second machine, and the two compared.
-fn elsewhere<W: Write>(
-    writer: &mut W,
-    slots: &[u16],
-    flags: &[u8],
-    area: &[u8],
-    records: &[u64],
-    directory: &[u64],
-    sources: &[u8],
-    file: &[u8],
-    pages: &[u8],
-    one: Machine,
-) -> io::Result<()> {
-    let mut slots2 = [0u16; PAGES];
-    let mut flags2 = [0u8; PAGES];
-    let mut area2 = [0u8; BYTES];
-    let mut records2 = [0u64; RECORDS];
-    let two = second(
-        writer,
-        &mut slots2,
-        &mut flags2,
-        &mut area2,
-        &mut records2,
-        directory,
-        sources,
-        file,
-        pages,
-    )?;
-    compare(
-        writer, slots, flags, area, records, &slots2, &flags2, &area2, &records2, one, two,
-    )
-}
-
-// The first machine is stopped, and goes on elsewhere.
-fn hand_over<W: Write>(
-    writer: &mut W,
-    slots: &[u16],
-    flags: &[u8],
-    area: &[u8],
-    records: &[u64],
-    directory: &[u64],
-    sources: &[u8],
-    one: Machine,
-) -> io::Result<()> {
+// All of it; where no machine or no snapshot is made, as far as that.
+fn tell<W: Write>(writer: &mut W) -> io::Result<()> {
+    let bytes = readings();
+    let sources = Sources {
+        directory: &[ITEM, 0, ITEM_BYTES as u64],
+        bytes: &bytes,
+    };
     let mut file = [0u8; FILE];
     let mut pages = [0u8; BYTES];
-    let written = stop(
-        writer, slots, flags, area, records, &mut file, &mut pages, one,
-    )?;
-    let record_file = front(&file, written.file);
-    let page_file = front(&pages, written.pages);
-    list(writer, record_file)?;
-    elsewhere(
-        writer,
-        slots,
-        flags,
-        area,
-        records,
-        directory,
-        sources,
-        record_file,
-        page_file,
-        one,
-    )
+    let mut outputs = Outputs {
+        file: &mut file,
+        pages: &mut pages,
+    };
+    let Some((one, made)) = first(writer, sources, &mut outputs)? else {
+        return writer.flush();
+    };
+    let files = Files {
+        file: front(
+            &file,
+            (made.records as usize).min(MOST_RECORDS) * RECORD_BYTES,
+        ),
+        pages: front(&pages, (made.pages as usize).min(PAGES) * RISCV_PAGESIZE),
+    };
+    list(writer, files.file)?;
+    if let Some(two) = second(writer, sources, files)? {
+        compare(writer, &one, &two)?;
+    }
+    writer.flush()
 }
 
 fn usage<W: Write>(writer: &mut W) -> io::Result<()> {
@@ -436,28 +345,6 @@ fn usage<W: Write>(writer: &mut W) -> io::Result<()> {
         b"usage: session\n\
           Tells document 01's Session A: a machine that is stopped and goes on elsewhere. It takes no argument.\n",
     )
-}
-
-fn tell<W: Write>(writer: &mut W) -> io::Result<()> {
-    let sources = readings();
-    let directory = [ITEM, 0, ITEM_BYTES as u64];
-    let mut slots = [0u16; PAGES];
-    let mut flags = [0u8; PAGES];
-    let mut area = [0u8; BYTES];
-    let mut records = [0u64; RECORDS];
-    let one = first(
-        writer,
-        &mut slots,
-        &mut flags,
-        &mut area,
-        &mut records,
-        &directory,
-        &sources,
-    )?;
-    hand_over(
-        writer, &slots, &flags, &area, &records, &directory, &sources, one,
-    )?;
-    writer.flush()
 }
 
 fn main(rt: HostRuntime) -> io::Result<()> {

@@ -1,29 +1,19 @@
 -- What an argument asks for: the pages that it writes as a decimal number.
-use Rattle.std.specs.Prelude.{ℕ, ◌≡◌, ◌≤◌, List, ⊤}
-use Rattle.std.specs.Str.Parse.{AllDigits, IsNumeral, digits_value}
+use Rattle.std.specs.Prelude.{ℕ, ◌≡◌, ◌≤◌, ◌+◌, ◌*◌, ◌<◌, List, Option, Some, None, IfSome}
+use Rattle.std.specs.Char.{digit_value}
+use Rattle.std.specs.Str.Parse.{IsNumeral, digits_value}
 use Rattle.listing.specs.Pages.{most_pages}
-use Rattle.snapmap.specs.declared.Asked.{Asked}
-use Rattle.snapmap.specs.declared.Asked.TheVariants.{Pages, Unclear}
 
--- the bytes of the longest argument
-abbrev pub most_word : ℕ
-most_word = 4
+-- a number with a digit behind it, up to the pages that a machine may have
+abbrev pub Pushes : ℕ → ℕ → Option ℕ → Type 0
+Pushes n byte (Some more) = (digit_value byte < 10) × (more ≡ n * 10 + digit_value byte) × (more ≤ most_pages)
+Pushes n byte None = ¬ ((digit_value byte < 10) × (n * 10 + digit_value byte ≤ most_pages))
 
--- digits alone, if any, for no more pages than a machine may have
-abbrev pub IsFew : List ℕ → Type 0
-IsFew word = AllDigits 10 word × (digits_value 10 word ≤ most_pages)
-
--- what the front of a word says
-abbrev pub Says : List ℕ → Asked → Type 0
-Says word (Pages n) = IsFew word × (digits_value 10 word ≡ n)
-Says word Unclear = ¬ (IsFew word)
-
--- what a whole word asks for: it has a digit
-abbrev pub AsksFor : List ℕ → Asked → Type 0
-AsksFor word (Pages n) = IsNumeral 10 word × (digits_value 10 word ≡ n) × (n ≤ most_pages)
-AsksFor word Unclear = ¬ (IsNumeral 10 word × (digits_value 10 word ≤ most_pages))
+-- what a word asks for: it has a digit, and no others
+abbrev pub AsksFor : List ℕ → Option ℕ → Type 0
+AsksFor word (Some n) = IsNumeral 10 word × (digits_value 10 word ≡ n) × (n ≤ most_pages)
+AsksFor word None = ¬ (IsNumeral 10 word × (digits_value 10 word ≤ most_pages))
 
 -- no more pages than a machine may have
-abbrev pub AreFew : Asked → Type 0
-AreFew (Pages n) = n ≤ most_pages
-AreFew Unclear = ⊤
+abbrev pub AreFew : Option ℕ → Type 0
+AreFew asked = IfSome asked (λ n. n ≤ most_pages)

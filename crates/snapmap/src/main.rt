@@ -1,95 +1,68 @@
 // snapmap: draws the record file on standard input as a map of the machine's pages, in SVG.
 //
 // The picture is `listing`'s; the program reads and writes. Its one argument, which may be left out, is the machine's pages.
-// Given others it says how it is used, and does nothing else.
+// Given others it says how it is used, and does nothing else. Its buffers are local arrays of a fixed size: no heap.
 #![tactic(auto)]
 
-ghost use Rattle.std.specs.Prelude.{◌≡◌, ◌+◌, ◌≤◌, ℕ, List, [], ◌∷◌, ◌++◌, length, take, IfSome, OnOk};
+ghost use Rattle.std.specs.Prelude.{◌≡◌, ◌≤◌, length, take, IfSome, OnOk};
 ghost use Rattle.std.specs.Counts.{IsPrefixLen};
 ghost use Rattle.std.specs.Io.KnownBytes.{Appends};
 ghost use Rattle.streams.specs.Fronts.{AppendsFront};
 ghost use Rattle.listing.specs.Map.{map, most_map};
 ghost use Rattle.listing.specs.Pages.{most_pages};
-ghost use Rattle.snapmap.specs.Numerals.{most_word, Says, AsksFor, AreFew};
+ghost use Rattle.snapmap.specs.Numerals.{Pushes, AsksFor, AreFew};
 
-use listing::MOST_PAGES;
 use listing::map::MOST_MAP;
-use recordfile::{MOST_RECORDS, RECORD_BYTES};
+use listing::{MOST_PAGES, MOST_READ};
 use std::env::{Env, FillError};
 use std::io;
 use std::io::{Read, Write};
 
-// A byte more than the largest file: a longer one is read up to there, and that is not whole records.
-const MOST_READ: usize = MOST_RECORDS * RECORD_BYTES + 1;
-
 // The bytes of the longest argument.
 const MOST_WORD: usize = 4;
 
-// The machine's pages as they are asked for, or that they are not.
-#[derive(Clone, Copy)]
-enum Asked {
-    Pages(u64),
-    Unclear,
-}
-
-// A number with a digit behind it, up to MOST_PAGES.
-fn with_digit(asked: Asked, byte: u8) -> Asked
-    ensures { (word : List ℕ) → Says word asked → Says (word ++ byte ∷ []) result }
+// A number of at most MOST_PAGES with a digit behind it; none where that is more, or no digit.
+fn with_digit(pages: u64, byte: u8) -> Option<u64>
+    requires { pages ≤ most_pages }
+    ensures { Pushes pages byte result }
 {
-    let Asked::Pages(n) = asked else {
-        return Asked::Unclear;
-    };
-    if MOST_PAGES < n {
-        return Asked::Unclear;
+    if !byte.is_ascii_digit() {
+        return None;
     }
-    if byte < b'0' {
-        return Asked::Unclear;
-    }
-    if b'9' < byte {
-        return Asked::Unclear;
-    }
-    let more = n * 10 + (byte - b'0') as u64;
+    let more = pages * 10 + u64::from(byte - b'0');
     if MOST_PAGES < more {
-        return Asked::Unclear;
+        return None;
     }
-    Asked::Pages(more)
+    Some(more)
 }
 
-// The same with byte i of a word, where it has one.
-fn with_byte(asked: Asked, word: &[u8], i: usize) -> Asked
-    ensures { Says (take i word.now) asked → Says (take (i + 1) word.now) result }
+// A word as a decimal number of at most MOST_PAGES. Not by std's `parse`, which takes a sign: what the program makes of a word stays.
+fn pages_in(word: &[u8]) -> Option<u64>
+    ensures { AsksFor word.now result }
 {
-    if i < word.len() {
-        return with_digit(asked, word[i]);
+    if word.is_empty() {
+        return None;
     }
-    asked
+    let mut pages = 0;
+    for byte in word {
+        pages = with_digit(pages, *byte)?;
+    }
+    Some(pages)
 }
 
-// A word of at most MOST_WORD bytes as a decimal number.
-fn pages_in(word: &[u8]) -> Asked
-    ensures { length word.now ≤ most_word → AsksFor word.now result }
-{
-    if word.len() == 0 {
-        return Asked::Unclear;
-    }
-    let one = with_byte(Asked::Pages(0), word, 0);
-    let two = with_byte(one, word, 1);
-    let three = with_byte(two, word, 2);
-    with_byte(three, word, 3)
-}
-
-// What the arguments ask for: at most one, of at most MOST_WORD bytes.
-fn from_arguments(rt: &HostRuntime) -> Asked
+// The machine's pages as the arguments ask for them: at most one, of at most MOST_WORD bytes.
+fn from_arguments(rt: &HostRuntime) -> Option<u64>
     ensures { AreFew result }
 {
+    // Arrays of a fixed size, here and below: no heap.
     let mut word = [0u8; MOST_WORD];
     let Err(FillError::NotPresent) = rt.arg(2, &mut word) else {
-        return Asked::Unclear;
+        return None;
     };
     match rt.arg(1, &mut word) {
         Ok(size) => pages_in(&word[..size]),
-        Err(FillError::NotPresent) => Asked::Pages(MOST_PAGES),
-        Err(FillError::TooLong) => Asked::Unclear,
+        Err(FillError::NotPresent) => Some(MOST_PAGES),
+        Err(FillError::TooLong) => None,
     }
 }
 
@@ -102,18 +75,21 @@ fn usage<W: Write>(writer: &mut W) -> io::Result<()> {
     )
 }
 
-// A record file's map, at the front of `out`; answers its size.
+// A record file's map, at the front of `out`; answers its size. The pages are a number, as `draw` takes them: a struct round it for
+// two contracts is no plainer. No one function for it and snaplist's `put_text`: `map` or `listing` of the promise would be a
+// parameter, no plainer.
 fn put_map(file: &[u8], out: &mut [u8], pages: u64) -> usize
     requires pages_le_most_pages { pages ≤ most_pages }
     requires most_map_in_bounds { most_map ≤ length out.old }
     ensures out_after { take result out.new ≡ map pages file.now }
     ensures prefix_len { IsPrefixLen result out.new }
 {
-    listing::map::draw(file, out, pages).size
+    listing::map::draw(file, out, pages).unwrap_or(0)
 }
 
 // Reads a record file to its end, and then writes its map. A file that can't be read to its end gives an error and no map;
-// after a failed write a front of the map is written.
+// after a failed write a front of the map is written. One function for it and snaplist's `list_input` is no plainer: it takes both
+// buffers, a closure and what that promises.
 fn draw_input<R: Read, W: Write>(reader: &mut R, writer: &mut W, pages: u64) -> io::Result<()>
     ensures all { pages ≤ most_pages → OnOk result (IfSome (R.remaining reader.old) (λ input.
         Appends (W.contents writer.old) (W.contents writer.new) (map pages input))) }
@@ -132,8 +108,7 @@ fn draw_input<R: Read, W: Write>(reader: &mut R, writer: &mut W, pages: u64) -> 
 }
 
 fn main(rt: HostRuntime) -> io::Result<()> {
-    let asked = from_arguments(&rt);
-    let Asked::Pages(pages) = asked else {
+    let Some(pages) = from_arguments(&rt) else {
         return usage(&mut rt.stderr());
     };
     draw_input(&mut rt.stdin(), &mut rt.stdout(), pages)

@@ -34,7 +34,8 @@ use Rattle.tracking.proofs.Lengths.{memory-told}
 use Rattle.snapshot.specs.Runs.{Run, a_run, continues, page_run, flag_at, dirty_from, sources_from, total}
 use Rattle.snapshot.specs.MakeSnapshot.{Made, not_made, holds, laid_out, make_snapshot}
 use Rattle.snapshot.specs.Answers.{lent_of, tally, read_out, dirty_out, snapshot_now}
-use Rattle.snapshot.proofs.Joining.{all_true, joined}
+use Rattle.snapshot.specs.Walk.{joined, meets, both, both_sources}
+use Rattle.snapshot.proofs.Joining.{all_true}
 use Rattle.snapshot.proofs.DirtyPages as dirty-pages
 use Rattle.snapshot.proofs.SourcePages as source-pages
 use Rattle.snapshot.proofs.Merged.{runs_bound, records_bound}
@@ -62,7 +63,7 @@ pub record SourceFits (pages : ℕ) (r : SourceRun) : Type 0 where
   pub offset_word : Word r.offset
 
 source-made : (pages : ℕ) (a b : SourceRun) → continues a b ≡ true → SourceFits pages a → SourceFits pages b
-    → SourceFits pages (source-pages.both a b)
+    → SourceFits pages (both_sources a b)
 unfolding continues
 source-made pages a b e f g =
     let q : b.address ≡ a.address + a.size = eqb-true _ _ (all_true _ _ e).0 in
@@ -85,16 +86,16 @@ module _ (flags records : List ℕ) (words : (i : ℕ) → Word (get_or records 
 
   source-joined : (p : ℕ) → p < length flags → (t : Tracking) → entry_in flags records p ≡ t → Told t
       → Each (SourceFits (length flags)) (sources_from flags records (p + 1)) → Each (SourceFits (length flags)) (sources_from flags records p)
-  source-joined p h Untracked q w each = rw (source-pages.sources-untracked flags records p h q) each
+  source-joined p h Untracked q w each = rw (source-pages.sources_untracked flags records p h q) each
   source-joined p h (Tracked id offset flag) q w each =
       rw (source-pages.sources_joins flags records p h id offset flag q, source-pages.join_is (page_run p flag id offset) _)
-      (each-joined continues source-pages.both (SourceFits (length flags)) (source-made (length flags)) (page_run p flag id offset) _
+      (each-joined continues both_sources (SourceFits (length flags)) (source-made (length flags)) (page_run p flag id offset) _
       (record { within = omega arith; flag_small = w.2; id_word = w.0; offset_word = w.1 })
       each)
 
   sources-from : (n p : ℕ) → p + n ≡ length flags → Each (SourceFits (length flags)) (sources_from flags records p)
   unfolding Each
-  sources-from zero p e = rw (source-pages.sources-past flags records p (omega arith)) (record {})
+  sources-from zero p e = rw (source-pages.sources_past flags records p (omega arith)) (record {})
   sources-from (suc n) p e =
       source-joined p (omega arith) (entry_in flags records p) refl (entry-told p) (sources-from n (p + 1) (omega arith))
 
@@ -108,18 +109,18 @@ pub record DirtyFits (pages : ℕ) (r : Run) : Type 0 where
   pub within : r.page + r.pages ≤ pages
   pub flag_small : r.flag < flag_values
 
-dirty-made : (pages : ℕ) (a b : Run) → dirty-pages.meets a b ≡ true → DirtyFits pages a → DirtyFits pages b
-    → DirtyFits pages (dirty-pages.both a b)
+dirty-made : (pages : ℕ) (a b : Run) → meets a b ≡ true → DirtyFits pages a → DirtyFits pages b
+    → DirtyFits pages (both a b)
 dirty-made pages a b e f g =
     let q : b.page ≡ a.page + a.pages = eqb-true _ _ (all_true _ _ e).0 in
     record { within = omega (arith, g.within); flag_small = f.flag_small }
 
 -- merging keeps the number of pages
-total-joined : (r : Run) (l : List Run) → total (joined dirty-pages.meets dirty-pages.both r l) ≡ r.pages + total l
+total-joined : (r : Run) (l : List Run) → total (joined meets both r l) ≡ r.pages + total l
 unfolding joined total
 total-joined r [] = refl
 total-joined r (s ∷ l) =
-    cases (λ (x : List Run). total x ≡ r.pages + total (s ∷ l)) (dirty-pages.meets r s) (dirty-pages.both r s ∷ l) (r ∷ s ∷ l)
+    cases (λ (x : List Run). total x ≡ r.pages + total (s ∷ l)) (meets r s) (both r s ∷ l) (r ∷ s ∷ l)
     (λ e. omega arith) (λ e. refl)
 
 -- so many pages of dirty runs
@@ -130,13 +131,13 @@ pub record Fits (size pages : ℕ) (rs : List Run) : Type 0 where
 module _ (flags : List ℕ) (small : Small flags) where
   page-fits : (n p : ℕ) → p < length flags → Dec (bit_and (flag_at flags p) dirty ≡ 0) → Fits (length flags) n (dirty_from flags (p + 1))
       → Fits (length flags) (suc n) (dirty_from flags p)
-  page-fits n p h (yes z) g = rw (dirty-pages.dirty-clean flags p h z) (record { each = g.each; in_all = omega (arith, g.in_all) })
+  page-fits n p h (yes z) g = rw (dirty-pages.dirty_clean flags p h z) (record { each = g.each; in_all = omega (arith, g.in_all) })
   page-fits n p h (no d) g =
       let r : Run = a_run p (flag_at flags p) 1 in
       rw (dirty-pages.dirty_joins flags p h d, dirty-pages.join_is p (flag_at flags p) _)
       (record {
         each =
-            each-joined dirty-pages.meets dirty-pages.both (DirtyFits (length flags)) (dirty-made (length flags)) r _
+            each-joined meets both (DirtyFits (length flags)) (dirty-made (length flags)) r _
             (record { within = omega arith; flag_small = small p })
             g.each;
         in_all = omega (arith, total-joined r (dirty_from flags (p + 1)), g.in_all);
@@ -144,7 +145,7 @@ module _ (flags : List ℕ) (small : Small flags) where
 
   dirty-from : (n p : ℕ) → p + n ≡ length flags → Fits (length flags) n (dirty_from flags p)
   unfolding Each total
-  dirty-from zero p e = rw (dirty-pages.dirty-past flags p (omega arith)) (record { each = record {}; in_all = omega arith })
+  dirty-from zero p e = rw (dirty-pages.dirty_past flags p (omega arith)) (record { each = record {}; in_all = omega arith })
   dirty-from (suc n) p e =
       page-fits n p (omega arith) (ℕ_discrete (bit_and (flag_at flags p) dirty) 0) (dirty-from n (p + 1) (omega arith))
 

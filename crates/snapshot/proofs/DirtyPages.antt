@@ -1,6 +1,6 @@
 -- The runs of dirty pages from a page on: page by page, and a run at a time.
 use mathlib.Core.Path.{◌≡◌, refl, sym, ap, ◌∙◌}
-use mathlib.Core.Bool.{Bool, true, false, cond}
+use mathlib.Core.Bool.{true, false}
 use mathlib.Core.List.{List, [], ◌∷◌}
 use mathlib.Core.Logic.{◌≢◌}
 use Prim.Native.Nat.{ℕ, ◌+◌, ◌-◌, ◌≤◌, ◌<◌}
@@ -14,22 +14,22 @@ use Rattle.program.specs.Program.{along}
 use Rattle.memory.specs.Pages.{dirty}
 use Rattle.memory.proofs.StoreCases.{cases}
 use Rattle.snapshot.specs.Runs.{Run, a_run, neighbours, join_dirty, dirty_runs, flag_at, dirty_from}
-use Rattle.snapshot.specs.Answers.{Inside, dirty_spread}
-use Rattle.snapshot.specs.declared.make.DirtySpan.TheVariants as dirty-span
-use Rattle.snapshot.proofs.Joining.{along_none, along-next, all_true, joined, Apart, joined-apart, Merging, joined-both}
+use Rattle.snapshot.specs.Walk.{joined, meets, both, run_of, dirty_before, DirtyEnds}
+use Rattle.snapshot.specs.declared.runs.DirtySpan.{DirtySpan}
+use Rattle.snapshot.proofs.Joining.{along_none, along-next, all_true, Apart, joined-apart, Merging, joined-both}
 
 -- ---- page by page
 
 module _ (flags : List ℕ) (p : ℕ) where
   -- past the pages there is no run
-  pub dirty-past : length flags ≤ p → dirty_from flags p ≡ []
+  pub dirty_past : length flags ≤ p → dirty_from flags p ≡ []
   unfolding dirty_from dirty_runs
-  dirty-past h = rw (along_none (flag_at flags) (length flags) p h)
+  dirty_past h = rw (along_none (flag_at flags) (length flags) p h)
 
   -- a clean page is passed over
-  pub dirty-clean : p < length flags → bit_and (flag_at flags p) dirty ≡ 0 → dirty_from flags p ≡ dirty_from flags (p + 1)
+  pub dirty_clean : p < length flags → bit_and (flag_at flags p) dirty ≡ 0 → dirty_from flags p ≡ dirty_from flags (p + 1)
   unfolding dirty_from dirty_runs
-  dirty-clean h z = rw (along-next (flag_at flags) (length flags) p h, eq-eqb _ _ z)
+  dirty_clean h z = rw (along-next (flag_at flags) (length flags) p h, eq-eqb _ _ z)
 
   -- a dirty page is joined to the runs of the pages after it
   pub dirty_joins : p < length flags → bit_and (flag_at flags p) dirty ≢ 0
@@ -38,13 +38,6 @@ module _ (flags : List ℕ) (p : ℕ) where
   dirty_joins h d = rw (along-next (flag_at flags) (length flags) p h, ne_eqb _ _ d)
 
 -- ---- runs before runs
-
--- a run whose pages follow those of another, with its flag
-abbrev pub meets : Run → Run → Bool
-meets a b = cond (eqb b.page (a.page + a.pages)) (eqb b.flag a.flag) false
-
-abbrev pub both : Run → Run → Run
-both a b = a_run a.page a.flag (b.pages + a.pages)
 
 meet : (a b : Run) → meets a b ≡ true → (b.page ≡ a.page + a.pages) × (b.flag ≡ a.flag)
 meet a b e =
@@ -127,7 +120,7 @@ dirty_front : (flags : List ℕ) (p : ℕ) → p < length flags → Front p (fla
 dirty_front flags p h = go (ℕ_discrete (bit_and (flag_at flags p) dirty) 0)
   where
     go : Dec (bit_and (flag_at flags p) dirty ≡ 0) → Front p (flag_at flags p) (dirty_from flags p)
-    go (yes z) = rw (dirty-clean flags p h z) (from_front p (flag_at flags p) (dirty_from flags (p + 1)) (dirty-later flags (p + 1)))
+    go (yes z) = rw (dirty_clean flags p h z) (from_front p (flag_at flags p) (dirty_from flags (p + 1)) (dirty-later flags (p + 1)))
     go (no d) = rw (dirty_joins flags p h d) (join_front p (flag_at flags p) (dirty_from flags (p + 1)))
 
 -- a run is not joined to a page of another flag
@@ -141,82 +134,21 @@ front_apart p f n g (r ∷ rs) d h =
 
 -- ---- the pages of a run
 
--- the pages from `page` to `next` have one flag, that of a dirty page: they are joined to the runs from `next` on
-pub record Stretch (flags : List ℕ) (page flag next : ℕ) : Type 0 where
-  pub its : flag ≡ flag_at flags page
-  pub so_far : dirty_from flags page ≡ joined meets both (a_run page flag (next - page)) (dirty_from flags next)
-  pub above : page < next
-  pub within : next ≤ length flags
+-- a dirty page is a run of one page before those of the pages after it
+pub dirty_single : (flags : List ℕ) (p : ℕ) → p < length flags → bit_and (flag_at flags p) dirty ≢ 0
+    → dirty_from flags p ≡ joined meets both (a_run p (flag_at flags p) 1) (dirty_from flags (p + 1))
+dirty_single flags p h d = dirty_joins flags p h d ∙ join_is p (flag_at flags p) (dirty_from flags (p + 1))
 
--- what the runs from `page` on come to, where its run has so many pages
-abbrev pub Spans : List ℕ → ℕ → ℕ → Type 0
-Spans flags page n = dirty_from flags page ≡ a_run page (flag_at flags page) n ∷ dirty_from flags (page + n)
+module _ (flags : List ℕ) (r : DirtySpan) (next : ℕ) (h : next < length flags) (ends : DirtyEnds r next) where
+  -- a run stops before a page of another flag
+  pub dirty_stops : flag_at flags next ≢ r.flag → dirty_before r (dirty_from flags next) ≡ run_of r ∷ dirty_from flags next
+  dirty_stops d =
+      joined-apart meets both (run_of r) (dirty_from flags next)
+      (front_apart r.page r.flag r.pages (flag_at flags next) (dirty_from flags next) d (rw ends.0 (dirty_front flags next h)))
 
-pub stretch : (flags : List ℕ) (page : ℕ) → page < length flags → bit_and (flag_at flags page) dirty ≢ 0
-    → Stretch flags page (flag_at flags page) (page + 1)
-stretch flags page h d =
-    let z : page + 1 - page ≡ 1 = omega arith in
-    record {
-      its = refl;
-      so_far = rw z (dirty_joins flags page h d ∙ join_is page (flag_at flags page) (dirty_from flags (page + 1)));
-      above = omega arith;
-      within = omega arith;
-    }
-
-module _ {flags : List ℕ} {page flag next : ℕ} (g : Stretch flags page flag next) where
-  parted : Apart meets both (a_run page flag (next - page)) (dirty_from flags next) → Spans flags page (next - page)
-  parted a =
-      let above = g.above in
-      let z : page + (next - page) ≡ next = omega arith in
-      rw (z, ← g.its) (g.so_far ∙ joined-apart meets both (a_run page flag (next - page)) (dirty_from flags next) a)
-
-  pub stretch-end : length flags ≤ next → Spans flags page (next - page)
-  unfolding Apart
-  stretch-end h = parted (rw (dirty-past flags next h) tt)
-
-  pub stretch-other : next < length flags → flag_at flags next ≢ flag → Spans flags page (next - page)
-  stretch-other h d =
-      let above = g.above in
-      let z : page + (next - page) ≡ next = omega arith in
-      parted
-      (front_apart page flag (next - page) (flag_at flags next) (dirty_from flags next) d (rw z (dirty_front flags next h)))
-
-  pub stretch-on : next < length flags → flag_at flags next ≡ flag → bit_and (flag_at flags page) dirty ≢ 0
-      → Stretch flags page flag (next + 1)
-  stretch-on h e d =
-      let above = g.above in
-      let z : page + (next - page) ≡ next = omega arith in
-      let y : next - page + 1 ≡ next + 1 - page = omega arith in
-      let q : bit_and (flag_at flags next) dirty ≢ 0 = rw (e, g.its) d in
-      record {
-        its = g.its;
-        so_far = g.so_far ∙ rw (dirty_joins flags next h q, e, ← y) (join_page page flag (next - page) next _ z);
-        above = omega arith;
-        within = omega arith;
-      }
-
--- ---- the first run
-
--- the pages from `from` to `page` are clean
-pub record Seeking (flags : List ℕ) (from page : ℕ) : Type 0 where
-  pub so_far : dirty_from flags from ≡ dirty_from flags page
-  pub above : from ≤ page
-
-pub seeking : (flags : List ℕ) (from : ℕ) → Seeking flags from from
-seeking flags from = record { so_far = refl; above = omega arith }
-
-module _ {flags : List ℕ} {from page : ℕ} (g : Seeking flags from page) where
-  pub seek_found : (n : ℕ) → Spans flags page n
-      → dirty_from flags from ≡ dirty_spread flags (dirty-span.Run page (flag_at flags page) n)
-  seek_found n e = g.so_far ∙ e
-
-  pub seek_inside : (n : ℕ) → (0 < n) × (page + n ≤ length flags) → Inside (length flags) from page n
-  seek_inside n h = record { above = g.above; some = h.0; within = h.1 }
-
-  pub seek_on : (next : ℕ) → dirty_from flags page ≡ dirty_from flags next → page < next → Seeking flags from next
-  seek_on next e h =
-      let above = g.above in
-      record { so_far = g.so_far ∙ e; above = omega arith }
-
-  pub seek_end : length flags ≤ page → dirty_from flags from ≡ []
-  seek_end h = g.so_far ∙ dirty-past flags page h
+  -- and takes a page of its flag
+  pub dirty_takes : flag_at flags next ≡ r.flag
+      → dirty_before r (dirty_from flags next) ≡ dirty_before (record { page = r.page; flag = r.flag; pages = r.pages + 1 }) (dirty_from flags (next + 1))
+  dirty_takes e =
+      let q : bit_and (flag_at flags next) dirty ≢ 0 = rw e ends.1 in
+      rw (dirty_joins flags next h q, e) (join_page r.page r.flag r.pages next (dirty_from flags (next + 1)) ends.0)

@@ -2,7 +2,7 @@
 use mathlib.Core.Path.{◌≡◌, refl, sym, ap, ◌∙◌}
 use mathlib.Core.Bool.{Bool, true, false, cond}
 use mathlib.Core.List.{List, [], ◌∷◌, ◌++◌, map, append_assoc}
-use Prim.Native.Nat.{ℕ, ◌+◌, ◌*◌, ◌^◌, ◌≤◌, ◌<◌}
+use Prim.Native.Nat.{ℕ, ◌+◌, ◌-◌, ◌*◌, ◌/◌, ◌^◌, ◌≤◌, ◌<◌}
 use native.Mathlib.Omega.{arith}
 use lib.Dec.{eqb}
 use lib.ListN.{length, length-map}
@@ -19,75 +19,85 @@ use Rattle.recordfile.specs.declared.Record.TheVariants.{Source}
 use Rattle.recordfile.specs.Words.{record_bytes, image}
 use Rattle.recordfile.specs.Records.{words_of, encoded}
 use Rattle.recordfile.specs.Form.{least_records, register_records}
-use Rattle.recordfile.specs.Snapshots.{SourceRun, source_run, source_records, dirty_records, image_of, file_of, contents, page_file_of}
+use Rattle.recordfile.specs.Snapshots.{SourceRun, source_records, dirty_records, image_of, file_of, contents, page_file_of}
 use Rattle.recordfile.proofs.FileRecords.{length_image_of}
 use Rattle.recordfile.proofs.SnapshotRecords.{length_register_records, length-source_records, length-dirty_records}
-use Rattle.snapshot.specs.Runs.{Run, a_run, dirty_from, sources_from, total}
-use Rattle.snapshot.specs.Answers.{Inside, dirty_spread, source_spread, DirtyWithin, SourceWithin, Count, counts, met_run, tally, read_out, dirty_out, head_records, run_records, snapshot_now}
-use Rattle.snapshot.specs.declared.make.DirtySpan.{DirtySpan}
-use Rattle.snapshot.specs.declared.make.DirtySpan.TheVariants as dirty-span
-use Rattle.snapshot.specs.declared.make.SourceSpan.{SourceSpan}
-use Rattle.snapshot.specs.declared.make.SourceSpan.TheVariants as source-span
-use Rattle.snapshot.proofs.DirtyPages.{dirty-past}
-use Rattle.snapshot.proofs.Counting.{dirty-inside, source-inside}
+use Rattle.tracking.specs.Operations.{entry_in}
+use Rattle.snapshot.specs.Runs.{Run, flag_at, dirty_from, sources_from, total}
+use Rattle.snapshot.specs.Walk.{run_of, source_of}
+use Rattle.snapshot.specs.Answers.{Count, counts, met_run, tally, read_out, dirty_out, head_records, run_records, snapshot_now}
+use Rattle.snapshot.specs.declared.runs.DirtySpan.{DirtySpan}
+use Rattle.snapshot.specs.declared.runs.SourceSpan.{SourceSpan}
+use Rattle.snapshot.proofs.RunPages.{SourcesLaid, sources-laid, DirtyFront, DirtyLaid}
+use Rattle.snapshot.proofs.Counting.{dirty_all}
 use Rattle.snapshot.proofs.Writing.{Recording, recording_first, recording_more, recording_next, recording_done, length-content, pages-content}
 
 -- ---- source runs
 
--- an address and a size of a run that was found
-module _ (size p page flag id offset pages : ℕ) (found : SourceSpan) (f : found ≡ source-span.Run page flag id offset pages)
-    (i : SourceWithin size p found) (h : size * page_size ≤ maximum) where
-  pub source-start : page * page_size < 2 ^ 64
-  source-start = omega (arith, (source-inside size p page flag id offset pages found f i).within)
+-- the runs of all pages, in turn from the first page on
+sources_all : (flags records : List ℕ) → SourcesLaid (entry_in flags records) (length flags) 0 (sources_from flags records 0)
+unfolding sources_from
+sources_all flags records =
+    let z : length flags - 0 ≡ length flags = omega arith in
+    let y : 0 + length flags ≡ length flags = omega arith in
+    rw z (rw y at (sources-laid (entry_in flags records) (length flags) 0))
 
-  pub source-size : pages * page_size < 2 ^ 64
-  source-size = omega (arith, (source-inside size p page flag id offset pages found f i).within)
-
--- those from page p on are left, up to record `end`
-pub record WritingSources (flags records file₀ : List ℕ) (from end : ℕ) (file : List ℕ) (at p : ℕ) : Type 0 where
-  pub left : at + length (sources_from flags records p) ≡ end
-  pub recorded :
-      Recording file₀ from (source_records (sources_from flags records 0)) file at (source_records (sources_from flags records p))
-
-no-runs : (l : List SourceRun) → length l ≡ 0 → l ≡ []
+no-runs : {A : Type 0} (l : List A) → length l ≡ 0 → l ≡ []
 no-runs [] e = refl
 no-runs (r ∷ l) e = absurd (omega arith)
 
-module _ (flags records file₀ : List ℕ) (from : ℕ) where
-  pub sources-first : (count : ℕ) → count ≡ length (sources_from flags records 0) → (from + count) * record_bytes ≤ length file₀
-      → WritingSources flags records file₀ from (from + count) file₀ from 0
-  sources-first count e h =
-      record {
-        left = omega arith;
-        recorded = recording_first file₀ from _ (rw (length-source_records (sources_from flags records 0), ← e) h);
-      }
+-- those that are left are to be written, from record `at` on, up to `count` of them; their pages are not below `passed`
+pub record WritingSources (flags records file₀ : List ℕ) (from count : ℕ) (file : List ℕ) (at : ℕ) (left : List SourceRun) : Type 0 where
+  pub ends : at + length left ≡ from + count
+  pub recorded : Recording file₀ from (source_records (sources_from flags records 0)) file at (source_records left)
+  pub passed : ℕ
+  pub laid : SourcesLaid (entry_in flags records) (length flags) passed left
 
-  module _ (end : ℕ) (file : List ℕ) (at p : ℕ) (g : WritingSources flags records file₀ from end file at p) where
-    -- what was found from page p on
-    module _ (found : SourceSpan) (e : sources_from flags records p ≡ source_spread flags records found) where
-      -- a run is written
-      pub sources_next : (page flag id offset pages : ℕ) → found ≡ source-span.Run page flag id offset pages
-          → (now : List ℕ)
-          → now ≡ encoded file at (Source (page * page_size) flag id offset (pages * page_size))
-          → WritingSources flags records file₀ from end now (at + 1) (page + pages)
-      unfolding source_records
-      sources_next page flag id offset pages f now q =
-          let r : sources_from flags records p
-          ≡ source_run (page * page_size) flag id offset (pages * page_size) ∷ sources_from flags records (page + pages) = rw f at e in
-          let l = rw r at g.left in
-          record { left = omega arith; recorded = recording_next _ _ (rw r at g.recorded) now q }
+pub sources_first : (flags records file₀ : List ℕ) (from count : ℕ) → count ≡ length (sources_from flags records 0)
+    → (from + count) * record_bytes ≤ length file₀ → WritingSources flags records file₀ from count file₀ from (sources_from flags records 0)
+sources_first flags records file₀ from count e h =
+    record {
+      ends = omega arith;
+      recorded = recording_first file₀ from _ (rw (length-source_records (sources_from flags records 0), ← e) h);
+      passed = 0;
+      laid = sources_all flags records;
+    }
 
-      -- no run is left
-      pub sources_none : found ≡ source-span.End
-          → file ≡ written file₀ (from * record_bytes) (image_of (source_records (sources_from flags records 0)))
-      unfolding source_records
-      sources_none f = let r : sources_from flags records p ≡ [] = rw f at e in recording_done (rw r at g.recorded)
+module _ {flags records file₀ : List ℕ} {from count : ℕ} {file : List ℕ} {at : ℕ} {left : List SourceRun}
+    (g : WritingSources flags records file₀ from count file at left) where
+  -- a run
+  module _ (r : SourceSpan) (rest : List SourceRun) (e : left ≡ source_of r ∷ rest) where
+    source-within : r.page * page_size + r.pages * page_size ≤ length flags * page_size
+    unfolding SourcesLaid
+    source-within = (rw e at g.laid).0.within
 
-    -- the last record is written
-    pub sources-done : end ≤ at → file ≡ written file₀ (from * record_bytes) (image_of (source_records (sources_from flags records 0)))
-    sources-done h =
-        let left = g.left in
-        sources_none source-span.End (no-runs (sources_from flags records p) (omega arith)) refl
+    pub source_start : length flags * page_size ≤ maximum → r.page * page_size < 2 ^ 64
+    source_start h = omega (arith, source-within)
+
+    pub source_size : length flags * page_size ≤ maximum → r.pages * page_size < 2 ^ 64
+    source_size h = omega (arith, source-within)
+
+    -- is written
+    pub sources_next : (now : List ℕ) → now ≡ encoded file at (Source (r.page * page_size) r.flag r.id r.offset (r.pages * page_size))
+        → WritingSources flags records file₀ from count now (at + 1) rest
+    unfolding source_records SourcesLaid
+    sources_next now q =
+        let l = rw e at g.ends in
+        record {
+          ends = omega arith;
+          recorded = recording_next _ _ (rw e at g.recorded) now q;
+          passed = (r.page * page_size + r.pages * page_size) / page_size;
+          laid = (rw e at g.laid).1;
+        }
+
+  -- no run is left
+  pub sources_none : left ≡ [] → file ≡ written file₀ (from * record_bytes) (image_of (source_records (sources_from flags records 0)))
+  unfolding source_records
+  sources_none e = recording_done (rw e at g.recorded)
+
+  -- the last record is written
+  pub sources_done : from + count ≤ at → file ≡ written file₀ (from * record_bytes) (image_of (source_records (sources_from flags records 0)))
+  sources_done h = let l = g.ends in sources_none (no-runs left (omega arith))
 
 -- ---- dirty runs
 
@@ -115,11 +125,12 @@ module _ (slots : List ℕ) (used : ℕ) (x : Run) (rs : List Run) (e : (tally s
       met_again slots used rs (0 + 1) (0 + x.pages) 0 0
       (met-first (eqb (met_run slots used x.pages x.page) 0) _ (met_run slots used x.pages x.page) refl e).1
 
--- the runs from page p on are left, and their bytes from page `place` of the page file on
-pub record WritingDirty (slots flags area file₀ pages₀ : List ℕ) (memory : Memory) (from : ℕ) (file pages : List ℕ) (at place p : ℕ)
-    : Type 0 where
-  pub within : p ≤ length flags
-  pub met_all : (tally slots memory.used 0 0 (dirty_from flags p)).number ≡ 0
+-- those that are left are to be written, from record `at` on, up to `count` of them, and their bytes from page `place` of the page
+-- file on; their pages are not below `passed`
+pub record WritingDirty (slots flags area file₀ pages₀ : List ℕ) (memory : Memory) (from count : ℕ) (file pages : List ℕ) (at place : ℕ)
+    (left : List Run) : Type 0 where
+  pub ends : at + length left ≡ from + count
+  pub met_all : (tally slots memory.used 0 0 left).number ≡ 0
   pub recorded :
       Recording
       file₀
@@ -127,98 +138,101 @@ pub record WritingDirty (slots flags area file₀ pages₀ : List ℕ) (memory :
       (dirty_records 0 (dirty_out slots flags area))
       file
       at
-      (dirty_records place (map (read_out slots area) (dirty_from flags p)))
-  pub paged : written pages (place * page_size) (contents (map (read_out slots area) (dirty_from flags p)))
+      (dirty_records place (map (read_out slots area) left))
+  pub paged : written pages (place * page_size) (contents (map (read_out slots area) left))
       ≡ written pages₀ 0 (contents (dirty_out slots flags area))
   pub kept : length pages ≡ length pages₀
-  pub room : (place + total (dirty_from flags p)) * page_size ≤ length pages₀
+  pub room : (place + total left) * page_size ≤ length pages₀
+  pub passed : ℕ
+  pub laid : DirtyLaid (flag_at flags) (length flags) passed left
 
-module _ (slots flags area file₀ pages₀ : List ℕ) (memory : Memory) (from : ℕ) where
-  pub dirty-first : (tally slots memory.used 0 0 (dirty_from flags 0)).number ≡ 0
-      → (from + length (dirty_from flags 0)) * record_bytes ≤ length file₀ → total (dirty_from flags 0) * page_size ≤ length pages₀
-      → WritingDirty slots flags area file₀ pages₀ memory from file₀ pages₀ from 0 0
-  unfolding dirty_out
-  dirty-first m h k =
-      record {
-        within = omega arith;
-        met_all = m;
-        recorded =
-            recording_first file₀ from _
-            (rw (length-dirty_records 0 (map (read_out slots area) (dirty_from flags 0)), length-map (dirty_from flags 0) (read_out slots area)) h);
-        paged = refl;
-        kept = refl;
-        room = omega arith;
-      }
+pub dirty_first : (slots flags area file₀ pages₀ : List ℕ) (memory : Memory) (from count : ℕ)
+    → (tally slots memory.used 0 0 (dirty_from flags 0)).number ≡ 0 → count ≡ length (dirty_from flags 0)
+    → (from + count) * record_bytes ≤ length file₀ → total (dirty_from flags 0) * page_size ≤ length pages₀
+    → WritingDirty slots flags area file₀ pages₀ memory from count file₀ pages₀ from 0 (dirty_from flags 0)
+unfolding dirty_out
+dirty_first slots flags area file₀ pages₀ memory from count m e h k =
+    record {
+      ends = omega arith;
+      met_all = m;
+      recorded =
+          recording_first file₀ from _
+          (rw (length-dirty_records 0 (map (read_out slots area) (dirty_from flags 0)), length-map (dirty_from flags 0) (read_out slots area), ← e) h);
+      paged = refl;
+      kept = refl;
+      room = omega arith;
+      passed = 0;
+      laid = dirty_all flags;
+    }
 
-  module _ (file pages : List ℕ) (at place p : ℕ) (g : WritingDirty slots flags area file₀ pages₀ memory from file pages at place p) where
-    -- what was found from page p on
-    module _ (found : DirtySpan) (e : dirty_from flags p ≡ dirty_spread flags found) where
-      -- no run is left
-      module _ (f : found ≡ dirty-span.End) where
-        none_left : dirty_from flags p ≡ []
-        none_left = rw f at e
+module _ {slots flags area file₀ pages₀ : List ℕ} {memory : Memory} {from count : ℕ} {file pages : List ℕ} {at place : ℕ} {left : List Run}
+    (g : WritingDirty slots flags area file₀ pages₀ memory from count file pages at place left) where
+  -- no run is left
+  module _ (e : left ≡ []) where
+    pub dirty_none : file ≡ written file₀ (from * record_bytes) (image_of (dirty_records 0 (dirty_out slots flags area)))
+    unfolding dirty_records
+    dirty_none = recording_done (rw e at g.recorded)
 
-        pub dirty_none : file ≡ written file₀ (from * record_bytes) (image_of (dirty_records 0 (dirty_out slots flags area)))
-        unfolding dirty_records
-        dirty_none = recording_done (rw none_left at g.recorded)
+    pub pages_none : pages ≡ written pages₀ 0 (contents (dirty_out slots flags area))
+    unfolding contents
+    pages_none = sym (written_none pages (place * page_size)) ∙ (rw e at g.paged)
 
-        pub pages_none : pages ≡ written pages₀ 0 (contents (dirty_out slots flags area))
-        unfolding contents
-        pages_none = sym (written_none pages (place * page_size)) ∙ (rw none_left at g.paged)
+  -- the last record is written
+  module _ (h : from + count ≤ at) where
+    all_written : left ≡ []
+    all_written = let l = g.ends in no-runs left (omega arith)
 
-      -- a run
-      module _ (page flag count : ℕ) (f : found ≡ dirty-span.Run page flag count) (i : DirtyWithin (length flags) p found) where
-        first-left : dirty_from flags p ≡ a_run page flag count ∷ dirty_from flags (page + count)
-        first-left = rw f at e
+    pub dirty_done : file ≡ written file₀ (from * record_bytes) (image_of (dirty_records 0 (dirty_out slots flags area)))
+    dirty_done = dirty_none all_written
 
-        inside : Inside (length flags) p page count
-        inside = dirty-inside (length flags) p page flag count found f i
+    pub pages_done : pages ≡ written pages₀ 0 (contents (dirty_out slots flags area))
+    pages_done = pages_none all_written
 
-        pub dirty_in_slots : Fitting (length slots) (length flags) (length area) memory → page + count ≤ length slots
-        dirty_in_slots h = omega (arith, inside.within, h.slots_are, h.flags_are)
+  -- a run
+  module _ (r : DirtySpan) (rest : List Run) (e : left ≡ run_of r ∷ rest) where
+    front : DirtyFront (flag_at flags) (length flags) g.passed (run_of r)
+    unfolding DirtyLaid
+    front = (rw e at g.laid).0
 
-        pub dirty-place : Fitting (length slots) (length flags) (length area) memory → length pages₀ < 2 ^ 64 → place + count < 2 ^ 64
-        dirty-place h l = omega (arith, inside.within, h.flags_are, h.small, g.room)
+    pub dirty_in_slots : Fitting (length slots) (length flags) (length area) memory → r.page + r.pages ≤ length slots
+    dirty_in_slots h = omega (arith, front.within, h.slots_are, h.flags_are)
 
-        pub dirty-some : 0 < count
-        dirty-some = inside.some
+    pub dirty_some : 0 < r.pages
+    dirty_some = front.some
 
-        pub dirty-met : met_run slots memory.used count page ≡ 0
-        dirty-met = met-one slots memory.used (a_run page flag count) _ (rw first-left at g.met_all)
+    pub dirty_met : met_run slots memory.used r.pages r.page ≡ 0
+    dirty_met = met-one slots memory.used (run_of r) rest (rw e at g.met_all)
 
-        pub dirty-file : (at + 1) * record_bytes ≤ length file
-        unfolding dirty_records
-        dirty-file = let k = g.recorded.kept in let h = rw first-left at g.recorded.room in omega arith
+    pub dirty_file : (at + 1) * record_bytes ≤ length file
+    unfolding dirty_records
+    dirty_file = let k = g.recorded.kept in let h = rw e at g.recorded.room in omega arith
 
-        pub dirty-pages : (place + count) * page_size ≤ length pages
-        unfolding total
-        dirty-pages = let k = g.kept in let h = rw first-left at g.room in omega arith
+    pub dirty_pages : (place + r.pages) * page_size ≤ length pages
+    unfolding total
+    dirty_pages = let k = g.kept in let h = rw e at g.room in omega arith
 
-        -- is written
-        pub dirty-next : (now paged : List ℕ)
-            → now ≡ written file (at * record_bytes) (image_of (dirty_records place (read_out slots area (a_run page flag count) ∷ [])))
-            → paged ≡ written pages (place * page_size) (read_out slots area (a_run page flag count)).content
-            → WritingDirty slots flags area file₀ pages₀ memory from now paged (at + 1) (place + count) (page + count)
-        unfolding dirty_records contents total
-        dirty-next now paged q w =
-            let c : List ℕ = (read_out slots area (a_run page flag count)).content in
-            let l : length c ≡ count * page_size = length-content slots area page flag count in
-            let z : (place + count) * page_size ≡ place * page_size + length c = omega arith in
-            let h : (place + (count + total (dirty_from flags (page + count)))) * page_size ≤ length pages₀ = rw first-left at g.room in
-            record {
-              within = inside.within;
-              met_all = met-others slots memory.used (a_run page flag count) _ (rw first-left at g.met_all);
-              recorded = rw (pages-content slots area page flag count) at (recording_more _ _ (rw first-left at g.recorded) now q);
-              paged = rw (z, w, written_next pages c _ (place * page_size)) (rw first-left at g.paged);
-              kept = ap length w ∙ length-written pages c (place * page_size) ∙ g.kept;
-              room = omega arith;
-            }
-
-    pub dirty-done : length flags ≤ p → file ≡ written file₀ (from * record_bytes) (image_of (dirty_records 0 (dirty_out slots flags area)))
-    dirty-done h = dirty_none dirty-span.End (dirty-past flags p h) refl
-
-    pub pages-done : length flags ≤ p → pages ≡ written pages₀ 0 (contents (dirty_out slots flags area))
-    pages-done h = pages_none dirty-span.End (dirty-past flags p h) refl
+    -- is written
+    pub dirty_next : (now paged : List ℕ)
+        → now ≡ written file (at * record_bytes) (image_of (dirty_records place (read_out slots area (run_of r) ∷ [])))
+        → paged ≡ written pages (place * page_size) (read_out slots area (run_of r)).content
+        → WritingDirty slots flags area file₀ pages₀ memory from count now paged (at + 1) (place + r.pages) rest
+    unfolding dirty_records contents total DirtyLaid
+    dirty_next now paged q w =
+        let c : List ℕ = (read_out slots area (run_of r)).content in
+        let l : length c ≡ r.pages * page_size = length-content slots area r.page r.flag r.pages in
+        let z : (place + r.pages) * page_size ≡ place * page_size + length c = omega arith in
+        let h : (place + (r.pages + total rest)) * page_size ≤ length pages₀ = rw e at g.room in
+        let l = rw e at g.ends in
+        record {
+          ends = omega arith;
+          met_all = met-others slots memory.used (run_of r) rest (rw e at g.met_all);
+          recorded = rw (pages-content slots area r.page r.flag r.pages) at (recording_more _ _ (rw e at g.recorded) now q);
+          paged = rw (z, w, written_next pages c _ (place * page_size)) (rw e at g.paged);
+          kept = ap length w ∙ length-written pages c (place * page_size) ∙ g.kept;
+          room = omega arith;
+          passed = r.page + r.pages;
+          laid = (rw e at g.laid).1;
+        }
 
 -- ---- both files
 
@@ -255,8 +269,8 @@ module _ (slots flags area records file mid now : List ℕ) where
       records_next file mid now (head_records m) (run_records slots flags area records) 0 least_records
       (rw (length_register_records m.registers 0 register_records)) q w
 
-pub pages-written : (slots flags area records pages now : List ℕ) (m : Machine)
+pub pages_written : (slots flags area records pages now : List ℕ) (m : Machine)
     → now ≡ written pages 0 (contents (dirty_out slots flags area))
     → now ≡ written pages 0 (page_file_of (snapshot_now slots flags area records m))
 unfolding page_file_of
-pages-written slots flags area records pages now m e = e
+pages_written slots flags area records pages now m e = e

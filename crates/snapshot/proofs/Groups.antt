@@ -1,11 +1,17 @@
 -- Groups of pages that are passed over at once: those with no dirty page, and those with no mark of a tracked page.
-use mathlib.Core.Path.{◌≡◌, refl, ap, ◌∙◌}
-use mathlib.Core.List.{List}
-use Prim.Native.Nat.{ℕ, ◌+◌, ◌-◌, ◌*◌, ◌/◌, ◌≤◌, ◌<◌}
+use mathlib.Core.Path.{◌≡◌, refl, sym, ap, ◌∙◌}
+use mathlib.Core.List.{List, [], ◌∷◌}
+use Prim.Native.Nat.{ℕ, zero, suc, ◌+◌, ◌-◌, ◌*◌, ◌≤◌, ◌<◌}
+use native.Mathlib.Nat.{add-zero}
 use native.Mathlib.Omega.{arith}
 use lib.Bits.{bit_and, bit_or, or_comm, or_add_and, and_le_l, and_le_r}
 use lib.Dec.{eqb}
-use lib.ListN.{length, get_or}
+use lib.ListN.{length, get_or, take, drop}
+use borrow.Author.Tests.{eqb-true}
+use Rattle.std.specs.Bool.{IsTrue}
+use Rattle.std.specs.List.{fold}
+use Rattle.std.proofs.lemmas.List.{drop_more}
+use Rattle.words.specs.Bytes.{part}
 use Rattle.memory.specs.Pages.{dirty}
 use Rattle.memory.proofs.Dirty.{or_dirty}
 use Rattle.memory.proofs.StoreCases.{cases}
@@ -16,46 +22,36 @@ use Rattle.tracking.specs.Records.{tracked_mark}
 use Rattle.tracking.specs.Operations.{masked, entry_in}
 use Rattle.tracking.proofs.PageRecords.{read_untracked}
 use Rattle.snapshot.specs.Runs.{flag_at, dirty_from, sources_from}
-use Rattle.snapshot.proofs.DirtyPages.{dirty-clean}
-use Rattle.snapshot.proofs.SourcePages.{sources-untracked}
-
--- the pages of a group
-abbrev pub group : ℕ
-group = 32
+use Rattle.snapshot.specs.Walk.{group}
+use Rattle.snapshot.proofs.DirtyPages.{dirty_clean}
+use Rattle.snapshot.proofs.SourcePages.{sources_untracked}
 
 -- ---- dirty pages
 
--- the flags of i pages of a whole group, joined: they tell that none of the pages is dirty
-pub record Clean (flags : List ℕ) (page joined i : ℕ) : Type 0 where
-  pub whole : page + group ≤ length flags
-  pub some : i ≤ group
-  pub so_far : bit_and joined dirty ≡ 0 → dirty_from flags page ≡ dirty_from flags (page + i)
+-- flags joined tell that none of them, nor what they are joined to, is a dirty page's
+fold-clean : (fs : List ℕ) (all : ℕ) → bit_and (fold bit_or all fs) dirty ≡ 0 → bit_and all dirty ≡ 0
+fold-clean [] all e = e
+fold-clean (f ∷ fs) all e = or_dirty all f (fold-clean fs (bit_or all f) e)
 
-pub clean-first : (flags : List ℕ) (page : ℕ) → page < length flags → group ≤ length flags - page → Clean flags page 0 0
-clean-first flags page h l =
-    let z : page ≡ page + 0 = omega arith in
-    record { whole = omega arith; some = omega arith; so_far = λ e. ap (dirty_from flags) z }
+clean_group : (flags : List ℕ) (n p all : ℕ) → p + n ≤ length flags → bit_and (fold bit_or all (take n (drop p flags))) dirty ≡ 0
+    → dirty_from flags p ≡ dirty_from flags (p + n)
+clean_group flags zero p all h e = ap (dirty_from flags) (sym (add-zero p))
+clean_group flags (suc n) p all h e =
+    let f : ℕ = flag_at flags p in
+    let c : drop p flags ≡ f ∷ drop (p + 1) flags = drop_more flags p 0 (omega arith) in
+    let g : bit_and (fold bit_or (bit_or all f) (take n (drop (p + 1) flags))) dirty ≡ 0 = rw c at e in
+    let k : bit_and (bit_or f all) dirty ≡ 0 = ap (λ (x : ℕ). bit_and x dirty) (or_comm f all) ∙ fold-clean (take n (drop (p + 1) flags)) (bit_or all f) g in
+    let z : p + 1 + n ≡ p + suc n = omega arith in
+    dirty_clean flags p (omega arith) (or_dirty f all k)
+    ∙ clean_group flags n (p + 1) (bit_or all f) (omega arith) g
+    ∙ ap (dirty_from flags) z
 
-module _ {flags : List ℕ} {page joined i : ℕ} (g : Clean flags page joined i) where
-  pub clean-on : i < group → Clean flags page (bit_or joined (flag_at flags (page + i))) (i + 1)
-  clean-on h =
-      let whole = g.whole in
-      let f : ℕ = flag_at flags (page + i) in
-      let z : page + i + 1 ≡ page + (i + 1) = omega arith in
-      record {
-        whole = whole;
-        some = omega arith;
-        so_far = λ (e : bit_and (bit_or joined f) dirty ≡ 0).
-            g.so_far (or_dirty joined f e)
-            ∙ dirty-clean flags (page + i) (omega arith) (or_dirty f joined (ap (λ (x : ℕ). bit_and x dirty) (or_comm f joined) ∙ e))
-            ∙ ap (dirty_from flags) z;
-      }
-
-  pub clean-passed : group ≤ i → bit_and joined dirty ≡ 0 → dirty_from flags page ≡ dirty_from flags (page + group)
-  clean-passed h e =
-      let some = g.some in
-      let z : i ≡ group = omega arith in
-      rw z at (g.so_far e)
+pub clean_passed : (flags : List ℕ) (page all : ℕ) → page + group ≤ length flags
+    → all ≡ fold bit_or 0 (part flags page (page + group - page)) → IsTrue (eqb (bit_and all dirty) 0)
+    → dirty_from flags page ≡ dirty_from flags (page + group)
+clean_passed flags page all h e t =
+    let z : page + group - page ≡ group = omega arith in
+    clean_group flags group page 0 h (rw (e, z) at (eqb-true (bit_and all dirty) 0 t))
 
 -- ---- tracked pages
 
@@ -68,44 +64,19 @@ entry-low : (flags records : List ℕ) (p : ℕ) → get_or records (p * record_
     → entry_in flags records p ≡ Untracked
 unfolding masked
 entry-low flags records p h =
-    rw (← read_untracked records p h)
+    rw (← read_untracked (get_or records (p * record_words) 0) (get_or records (p * record_words + 1) 0) _ h)
     (cases (λ (t : Tracking). t ≡ Untracked) (eqb (bit_and (get_or flags p 0) dirty) 0) _ _ (λ e. refl) (λ e. refl))
 
--- the marks of i pages of a whole group, joined: they tell that none of the pages is tracked
-pub record Low (flags records : List ℕ) (page marks i : ℕ) : Type 0 where
-  pub whole : page + group ≤ length flags
-  pub worded : page + group ≤ length records / record_words
-  pub some : i ≤ group
-  pub so_far : marks < tracked_mark → sources_from flags records page ≡ sources_from flags records (page + i)
+-- the marks of the pages from `page` to `next`, joined: they tell that none of the pages is tracked
+pub record Low (flags records : List ℕ) (page marks next : ℕ) : Type 0 where
+  pub so_far : marks < tracked_mark → sources_from flags records page ≡ sources_from flags records next
 
-pub low_first : (flags records : List ℕ) (page : ℕ) → page < length flags → group ≤ length flags - page
-    → page + group ≤ length records / record_words → Low flags records page 0 0
-low_first flags records page h l w =
-    let z : page ≡ page + 0 = omega arith in
-    record { whole = omega arith; worded = w; some = omega arith; so_far = λ e. ap (sources_from flags records) z }
-
-module _ {flags records : List ℕ} {page marks i : ℕ} (g : Low flags records page marks i) where
-  pub low-there : i < group → (page + i) * record_words + 2 < length records
-  low-there h = omega (arith, g.worded)
-
-  pub low-on : i < group → Low flags records page (bit_or marks (get_or records ((page + i) * record_words + 2) 0)) (i + 1)
-  low-on h =
-      let whole = g.whole in
-      let m : ℕ = get_or records ((page + i) * record_words + 2) 0 in
-      let z : page + i + 1 ≡ page + (i + 1) = omega arith in
-      record {
-        whole = whole;
-        worded = g.worded;
-        some = omega arith;
-        so_far = λ (e : bit_or marks m < tracked_mark).
-            g.so_far (omega (arith, (or_least marks m).0))
-            ∙ sources-untracked flags records (page + i) (omega arith)
-            (entry-low flags records (page + i) (omega (arith, (or_least marks m).1)))
-            ∙ ap (sources_from flags records) z;
-      }
-
-  pub low-passed : group ≤ i → marks < tracked_mark → sources_from flags records page ≡ sources_from flags records (page + group)
-  low-passed h e =
-      let some = g.some in
-      let z : i ≡ group = omega arith in
-      rw z at (g.so_far e)
+pub low_on : (flags records : List ℕ) (page marks next : ℕ) → Low flags records page marks next → next < length flags
+    → Low flags records page (bit_or marks (get_or records (next * record_words + 2) 0)) (next + 1)
+low_on flags records page marks next g h =
+    let m : ℕ = get_or records (next * record_words + 2) 0 in
+    record {
+      so_far = λ (e : bit_or marks m < tracked_mark).
+          g.so_far (omega (arith, (or_least marks m).0))
+          ∙ sources_untracked flags records next h (entry-low flags records next (omega (arith, (or_least marks m).1)));
+    }

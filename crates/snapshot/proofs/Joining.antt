@@ -5,6 +5,7 @@ use mathlib.Core.List.{List, [], ◌∷◌}
 use Prim.Native.Nat.{ℕ, zero, suc, ◌+◌, ◌-◌, ◌≤◌, ◌<◌}
 use native.Mathlib.Omega.{arith}
 use Rattle.program.specs.Program.{along}
+use Rattle.snapshot.specs.Walk.{joined}
 
 -- ---- pages in turn
 
@@ -29,17 +30,12 @@ all_true true y e = (refl, e)
 all_true false y e = (e, absurd (false≢true e))
 
 module _ {R : Type 0} (meets : R → R → Bool) (both : R → R → R) where
-  -- a run before others: merged with the first where they meet
-  unfoldable pub joined : R → List R → List R
-  joined r [] = r ∷ []
-  joined r (s ∷ ss) = cond (meets r s) (both r s ∷ ss) (r ∷ s ∷ ss)
-
   -- the first of the others does not meet it
   unfoldable pub Apart : R → List R → Type 0
   Apart r [] = Unit {0}
   Apart r (s ∷ ss) = meets r s ≡ false
 
-  pub joined-apart : (r : R) (ss : List R) → Apart r ss → joined r ss ≡ r ∷ ss
+  pub joined-apart : (r : R) (ss : List R) → Apart r ss → joined meets both r ss ≡ r ∷ ss
   unfolding joined Apart
   joined-apart r [] a = refl
   joined-apart r (s ∷ ss) a = rw a
@@ -52,12 +48,12 @@ module _ {R : Type 0} (meets : R → R → Bool) (both : R → R → R) where
 
   module _ (w : Merging) where
     -- two runs that meet, before others, are one run before them
-    pub joined-both : (a b : R) (ds : List R) → meets a b ≡ true → joined a (joined b ds) ≡ joined (both a b) ds
+    pub joined-both : (a b : R) (ds : List R) → meets a b ≡ true → joined meets both a (joined meets both b ds) ≡ joined meets both (both a b) ds
     unfolding joined
     joined-both a b [] e = rw e
     joined-both a b (d ∷ ds) e = go (meets b d) refl
       where
         go : (c : Bool) → meets b d ≡ c
-            → joined a (cond c (both b d ∷ ds) (b ∷ d ∷ ds)) ≡ cond (meets (both a b) d) (both (both a b) d ∷ ds) (both a b ∷ d ∷ ds)
+            → joined meets both a (cond c (both b d ∷ ds) (b ∷ d ∷ ds)) ≡ cond (meets (both a b) d) (both (both a b) d ∷ ds) (both a b ∷ d ∷ ds)
         go true k = rw (w.end a b d e, k, w.start a b d k, e, w.thrice a b d)
         go false k = rw (w.end a b d e, k, e)

@@ -3,10 +3,10 @@ pub mod Joining
 pub mod DirtyPages
 pub mod SourcePages
 pub mod Groups
-pub mod Counting
-pub mod Merged
 -- what runs say of each page:
 pub mod RunPages
+pub mod Counting
+pub mod Merged
 -- a snapshot's program on lent lists, its second pass, and each way in which the call ends:
 pub mod TakenNow
 pub mod Writing

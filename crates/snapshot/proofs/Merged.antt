@@ -22,10 +22,11 @@ use Rattle.tracking.specs.Records.{record_of}
 use Rattle.tracking.specs.Operations.{masked, entry_in}
 use Rattle.snapshot.specs.Runs.{Run, a_run, neighbours, join_dirty, dirty_runs, join_source, page_run, source_runs, continues, flag_at, dirty_from, sources_from}
 use Rattle.snapshot.specs.Answers.{read_out, dirty_out, snapshot_now}
-use Rattle.snapshot.proofs.Joining.{joined, Apart, joined-apart, Merging, joined-both}
-use Rattle.snapshot.proofs.DirtyPages.{meets, both, merging, join_is, dirty-past, dirty-clean, dirty_joins}
+use Rattle.snapshot.specs.Walk.{joined, meets, both, both_sources}
+use Rattle.snapshot.proofs.Joining.{Apart, joined-apart, Merging, joined-both}
+use Rattle.snapshot.proofs.DirtyPages.{merging, join_is, dirty_past, dirty_clean, dirty_joins}
 use Rattle.snapshot.proofs.SourcePages as source
-use Rattle.snapshot.proofs.SourcePages.{sources-past, sources-untracked, sources_joins}
+use Rattle.snapshot.proofs.SourcePages.{sources_past, sources_untracked, sources_joins}
 
 -- ---- how many
 
@@ -45,22 +46,22 @@ module _ (flags records : List ℕ) where
 
     source_once : (t : Tracking) → entry_in flags records p ≡ t
         → length (sources_from flags records p) ≤ length (sources_from flags records (p + 1)) + 1
-    source_once Untracked q = rw (sources-untracked flags records p h q) (omega arith)
+    source_once Untracked q = rw (sources_untracked flags records p h q) (omega arith)
     source_once (Tracked id offset flag) q =
         rw (sources_joins flags records p h id offset flag q, source.join_is (page_run p flag id offset) _)
-        (length-joined continues source.both (page_run p flag id offset) (sources_from flags records (p + 1)))
+        (length-joined continues both_sources (page_run p flag id offset) (sources_from flags records (p + 1)))
 
     -- a page is in at most one run
     page_once : Dec (bit_and (flag_at flags p) dirty ≡ 0)
         → length (sources_from flags records p) + length (dirty_from flags p)
         ≤ length (sources_from flags records (p + 1)) + length (dirty_from flags (p + 1)) + 1
-    page_once (yes z) = rw (dirty-clean flags p h z) (omega (arith, source_once (entry_in flags records p) refl))
+    page_once (yes z) = rw (dirty_clean flags p h z) (omega (arith, source_once (entry_in flags records p) refl))
     page_once (no d) =
-        rw (sources-untracked flags records p h (shows_nothing d), dirty_joins flags p h d, join_is p (flag_at flags p) _)
+        rw (sources_untracked flags records p h (shows_nothing d), dirty_joins flags p h d, join_is p (flag_at flags p) _)
         (omega (arith, length-joined meets both (a_run p (flag_at flags p) 1) (dirty_from flags (p + 1))))
 
   pages_bound : (n p : ℕ) → p + n ≡ length flags → length (sources_from flags records p) + length (dirty_from flags p) ≤ n
-  pages_bound zero p e = rw (sources-past flags records p (omega arith), dirty-past flags p (omega arith)) (omega arith)
+  pages_bound zero p e = rw (sources_past flags records p (omega arith), dirty_past flags p (omega arith)) (omega arith)
   pages_bound (suc n) p e =
       omega (arith, pages_bound n (p + 1) (omega arith), page_once p (omega arith) (ℕ_discrete (bit_and (flag_at flags p) dirty) 0))
 
@@ -189,17 +190,17 @@ dirty_right (f ∷ fs) p = turn (eqb (bit_and f dirty) 0) (dirty_right fs (p + 1
     turn true i = i
     turn false i = ap (joined meets both (a_run p f 1)) i ∙ sym (join_is p f (dirty_runs (p + 1) fs))
 
-source_right : (ts : List Tracking) (p : ℕ) → right_runs continues source.both (tracked_pages p ts) ≡ source_runs p ts
+source_right : (ts : List Tracking) (p : ℕ) → right_runs continues both_sources (tracked_pages p ts) ≡ source_runs p ts
 unfolding right_runs tracked_pages source_runs
 source_right [] p = refl
 source_right (Untracked ∷ ts) p = source_right ts (p + 1)
 source_right (Tracked id offset flag ∷ ts) p =
-    ap (joined continues source.both (page_run p flag id offset)) (source_right ts (p + 1))
+    ap (joined continues both_sources (page_run p flag id offset)) (source_right ts (p + 1))
     ∙ sym (source.join_is (page_run p flag id offset) (source_runs (p + 1) ts))
 
 -- the runs are those of snapshot2.rs's two loops
 pub dirty_from_left : (fs : List ℕ) (p : ℕ) → left_runs meets both [] (dirty_pages p fs) ≡ dirty_runs p fs
 dirty_from_left fs p = same_runs meets both merging (dirty_pages p fs) ∙ dirty_right fs p
 
-pub source_from_left : (ts : List Tracking) (p : ℕ) → left_runs continues source.both [] (tracked_pages p ts) ≡ source_runs p ts
-source_from_left ts p = same_runs continues source.both source.merging (tracked_pages p ts) ∙ source_right ts p
+pub source_from_left : (ts : List Tracking) (p : ℕ) → left_runs continues both_sources [] (tracked_pages p ts) ≡ source_runs p ts
+source_from_left ts p = same_runs continues both_sources source.merging (tracked_pages p ts) ∙ source_right ts p

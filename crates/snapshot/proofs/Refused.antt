@@ -18,12 +18,11 @@ use Rattle.memory.specs.Sparse as sparse
 use Rattle.memory.specs.WXorX as wxorx
 use Rattle.memory.proofs.StoreCases.{cases, PageStored, past, full, wild, took, had, page-stored}
 use Rattle.machine.specs.Operations as machine
-use Rattle.machine.specs.Numbers.{machine_of}
 use Rattle.machine.specs.Fresh.{Tracked, LentMachine}
 use Rattle.recordfile.specs.Records.{records_in}
 use Rattle.recordfile.specs.Form as form
 use Rattle.recordfile.specs.Form.{Form, malformed, needs, judged, in_form}
-use Rattle.recordfile.specs.Snapshots.{Kept, SourceRun, DirtyRun, Snapshot, kept_in, snapshot_in}
+use Rattle.recordfile.specs.Snapshots.{SourceRun, DirtyRun, Snapshot, kept_in, snapshot_in}
 use Rattle.tracking.specs.Sources.{Data, data_of}
 use Rattle.tracking.specs.Operations.{AnyOp, Call, MachineCall, does, machine_does, on_memory, fitting, fits_tracked, lengths?, entry?, track!, drop!, drop_all!, track_page, drop_page, top}
 use Rattle.tracking.specs.Tracking.{distance, track_from, track_whole, track, track_pages}
@@ -47,28 +46,20 @@ module _ (directory sources file pages : List ℕ) (s : LentMachine) where
 
   -- "Check lengths (9) first in every call."
   pub wrong-lengths : fits_tracked s.0 ≡ false → resumed ≡ (9, s)
-  wrong-lengths e =
-      sym
-      (resume_unfit directory sources file pages s.0.0.slots s.0.0.flags s.0.0.area s.0.1
-      (machine_of s.1 s.0.0.memory) false (sym e) refl)
+  wrong-lengths e = sym (resume_unfit directory sources file pages s false (sym e) refl)
 
   module _ (fit : fits_tracked s.0 ≡ true) where
     -- "record form 11"
     pub wrong_form : in_form file (length pages) ≢ 0 → resumed ≡ (11, s)
     unfolding in_form
     wrong_form n =
-        sym
-        (resume-malformed directory sources file pages s.0.0.slots s.0.0.flags s.0.0.area s.0.1
-        (machine_of s.1 s.0.0.memory) true (sym fit) refl 11 (sym (form_number (judged file) (length pages) n)) false refl refl)
+        sym (resume-malformed directory sources file pages s true (sym fit) refl 11 (sym (form_number (judged file) (length pages) n)) refl)
 
     -- "version 1"
     pub wrong-version : in_form file (length pages) ≡ 0 → s.1.version ≢ (kept_in (records_in file)).version → resumed ≡ (1, s)
+    unfolding snapshot_in
     wrong-version ok v =
-        let k : Kept = kept_in (records_in file) in
-        sym
-        (resume-other directory sources file pages s.0.0.slots s.0.0.flags s.0.0.area s.0.1
-        (machine_of s.1 s.0.0.memory) true (sym fit) refl 0 (sym ok) true refl refl
-        (record { version = k.version; pc = k.pc; cycles = k.cycles; maximum = k.maximum; reservation = k.reservation }) refl v)
+        sym (resume-other directory sources file pages s true (sym fit) refl 0 (sym ok) refl (kept_in (records_in file)).version refl v)
 
 -- ---- programs that ask only such operations
 module _ {Op : Type 0} {Reply : Op → Type 0} (Such : Op → Type 0) where

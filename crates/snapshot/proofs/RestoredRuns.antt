@@ -1,164 +1,159 @@
--- Files in the form: the registers that they hold, read record by record, and their runs, restored record by record.
+-- Records in the form: the state record and the register records, read in turn, and the runs after them, restored record by record.
 use mathlib.Core.Path.{◌≡◌, refl, sym, ap, ◌∙◌}
 use mathlib.Core.Bool.{Bool, true, false, cond}
-use mathlib.Core.List.{List, [], ◌∷◌, ◌++◌}
-use Prim.Native.Nat.{ℕ, zero, suc, ◌+◌, ◌-◌, ◌*◌, ◌%◌, ◌^◌, ◌≤◌, ◌<◌}
-use native.Mathlib.Nat.{add-zero, sub-zero}
-use native.Mathlib.Numerals.{add-one}
+use mathlib.Core.List.{List, [], ◌∷◌, ◌++◌, append-nil, append_assoc}
+use mathlib.Core.Logic.{◌≢◌}
+use Prim.Native.Nat.{ℕ, zero, suc, ◌+◌, ◌*◌, ◌≤◌, ◌<◌}
 use native.Mathlib.Omega.{arith}
-use types.Run.{miss}
-use lib.ListN.{length, take, drop, set, get_or, length-set}
-use lib.Seq.{take_all, take-suc, take-suc-set}
+use lib.ListN.{length, set, get_or, length-set}
 use lib.Dec.{eqb}
-use Rattle.bits.specs.Rounding.{page_size}
-use Rattle.words.specs.Bytes.{filled}
-use Rattle.words.proofs.Filled.{length-filled}
+use borrow.Author.Tests.{eqb-true, eq-eqb}
+use Rattle.std.proofs.Common.{get_or-set_other, get_or-set_same}
+use Rattle.outcome.specs.Numbers.{refusal_number}
+use Rattle.outcome.specs.declared.Refusal.{Refusal}
 use Rattle.program.specs.Program.{Prog, ret, run, bind, after, and_then, each_in}
 use Rattle.program.proofs.Laws.{after_run, then_done, then_stop}
 use Rattle.program.proofs.Lists.{each_in_none, each_in_turn, each_in_stop}
+use Rattle.memory.proofs.Refused.{refused}
 use Rattle.machine.specs.Fresh.{Tracked}
 use Rattle.recordfile.specs.declared.Record.{Record}
-use Rattle.recordfile.specs.declared.Record.TheVariants.{Registers, Bad}
-use Rattle.recordfile.specs.Records.{count_in, record_at, records_from, records_in}
-use Rattle.recordfile.specs.Form.{least_records, register_records, registers_a_record, in_form}
-use Rattle.recordfile.specs.Snapshots.{SourceRun, DirtyRun, Snapshot, pages_of, registers_in, sources_in, dirty_in, of_records, register_records_of, source_records, dirty_records, records_of, page_file_of}
-use Rattle.recordfile.proofs.Judging.{NotRegisters, from, from_one, from_none}
-use Rattle.recordfile.proofs.SnapshotRecords.{dirty_read, shaped_read}
-use Rattle.recordfile.proofs.SnapshotForm.{SnapshotIs, snapshot-is}
+use Rattle.recordfile.specs.declared.Record.TheVariants.{State, Registers, Source, Dirty, Bad}
+use Rattle.recordfile.specs.Records.{records_in}
+use Rattle.recordfile.specs.Form.{Form, malformed, register_records, registers_a_record, dirty_needs, runs_need, registers_need, records_need, in_form}
+use Rattle.recordfile.specs.Snapshots.{kept_in, registers_in, sources_in, dirty_in, of_records, snapshot_in, state_record, register_records_of}
+use Rattle.recordfile.proofs.Judging.{NotState, NotRegisters, no-state, RegistersTo, registers-start, registers-none, registers-other, registers-apart, registers-next}
+use Rattle.recordfile.proofs.SnapshotRecords.{registers-need, registers_read, registers-sources, registers-dirty}
+use Rattle.recordfile.proofs.SnapshotForm.{never}
 use Rattle.recordfile.proofs.RoundTrip.{Accepted, accepted}
 use Rattle.tracking.specs.Operations.{Call, does, on_memory}
+use Rattle.snapshot.specs.declared.resume.Kept as code-kept
 use Rattle.snapshot.specs.Resume.{restore_source, restore_dirty, restore_record, restore_runs}
+use Rattle.snapshot.specs.Answers.{kept_of_file, snapshot_left}
 
--- ---- the snapshot that files in the form hold
-module _ (file pages : List ℕ) (ok : in_form file (length pages) ≡ 0) where
-  pub pages-whole : length pages % page_size ≡ 0
-  pages-whole = let z = (accepted file (length pages) ok).sized in omega arith
+-- ---- the state record
+module _ (rs : List Record) (formed : records_need rs ≢ malformed) where
+  pub state_missing : rs ≡ [] → ⊥
+  unfolding records_need
+  state_missing e = formed (rw e refl)
 
-  -- its records are the file's
-  held : SnapshotIs pages (records_in file)
-  held =
-      let a : Accepted file (length pages) = accepted file (length pages) ok in
-      snapshot-is pages a.pages (records_in file) a.sized a.need
+  pub state_other : (r : Record) (ts : List Record) → rs ≡ r ∷ ts → NotState r → ⊥
+  state_other r ts e t = formed (rw e (no-state r ts t))
 
-  -- and it is read from them
-  is_read : of_records pages (records_in file) ≡ held.snapshot
-  is_read =
-      ap (of_records pages) (sym held.records)
-      ∙ ap (λ (p : List ℕ). of_records p (records_of held.snapshot)) (sym held.pages)
-      ∙ shaped_read held.snapshot held.shaped
-
--- ---- registers
+-- ---- register records
 
 -- the record of four registers from a number on
 abbrev four_at : List ℕ → ℕ → Record
 four_at registers next =
     Registers next (get_or registers next 0) (get_or registers (next + 1) 0) (get_or registers (next + 2) 0) (get_or registers (next + 3) 0)
 
-at_records : (file : List ℕ) (n i j : ℕ) → j < n → get_or (records_from file i n) j Bad ≡ record_at file (i + j)
-unfolding records_from
-at_records file zero i j h = absurd (omega arith)
-at_records file (suc n) i zero h = ap (record_at file) (omega arith)
-at_records file (suc n) i (suc j) h = at_records file n (i + 1) j (omega arith) ∙ ap (record_at file) (omega arith)
-
-at_registers : (registers : List ℕ) (t : List Record) (n next i : ℕ) → i < n
-    → get_or (register_records_of registers next n ++ t) i Bad ≡ four_at registers (next + i * registers_a_record)
+-- the last of n + 1 records
+one-after : (registers : List ℕ) (next n : ℕ)
+    → register_records_of registers next (suc n) ≡ register_records_of registers next n ++ (four_at registers (next + n * registers_a_record) ∷ [])
 unfolding register_records_of
-at_registers registers t zero next i h = absurd (omega arith)
-at_registers registers t (suc n) next zero h = ap (four_at registers) (omega arith)
-at_registers registers t (suc n) next (suc i) h =
-    at_registers registers t n (next + registers_a_record) i (omega arith) ∙ ap (four_at registers) (omega arith)
+one-after registers next zero = let k : next + 0 * registers_a_record ≡ next = omega arith in rw k
+one-after registers next (suc n) =
+    let k : next + registers_a_record + n * registers_a_record ≡ next + suc n * registers_a_record = omega arith in
+    ap (λ (rs : List Record). four_at registers next ∷ rs) (one-after registers (next + registers_a_record) n ∙ rw k refl)
 
-module _ (file : List ℕ) (size : ℕ) (ok : in_form file size ≡ 0) where
-  -- beside any page file of that length
-  beside : in_form file (length (filled size 0)) ≡ 0
-  beside = rw length-filled ok
+-- a register past theirs is set
+set-past : (registers : List ℕ) (j x next n : ℕ) → next + n * registers_a_record ≤ j
+    → register_records_of (set registers j x) next n ≡ register_records_of registers next n
+unfolding register_records_of
+set-past registers j x next zero h = refl
+set-past registers j x next (suc n) h =
+    rw (get_or-set_other registers j next x 0 (omega arith), get_or-set_other registers j (next + 1) x 0 (omega arith), get_or-set_other registers j (next + 2) x 0 (omega arith), get_or-set_other registers j (next + 3) x 0 (omega arith), set-past registers j x (next + registers_a_record) n (omega arith))
 
-  values : registers_in (records_in file) ≡ (held file (filled size 0) beside).snapshot.registers
-  values = ap (λ (s : Snapshot). s.registers) (is_read file (filled size 0) beside)
+-- four registers set
+abbrev pub set_four : List ℕ → ℕ → ℕ → ℕ → ℕ → ℕ → List ℕ
+set_four registers at one two three four = set (set (set (set registers at one) (at + 1) two) (at + 2) three) (at + 3) four
 
-  -- "four values. Eight, in order."
-  registers-count : length (registers_in (records_in file)) ≡ registers_a_record * register_records
-  registers-count = rw values (held file (filled size 0) beside).shaped.registers_are
+four-set : (registers : List ℕ) (at one two three four : ℕ) → at + 4 ≤ length registers
+    → four_at (set_four registers at one two three four) at ≡ Registers at one two three four
+four-set registers at one two three four h =
+    let a : List ℕ = set registers at one in
+    let b : List ℕ = set a (at + 1) two in
+    let c : List ℕ = set b (at + 2) three in
+    let i : get_or (set c (at + 3) four) at 0 ≡ one =
+    get_or-set_other c (at + 3) at four 0 (omega arith)
+    ∙ get_or-set_other b (at + 2) at three 0 (omega arith)
+    ∙ get_or-set_other a (at + 1) at two 0 (omega arith)
+    ∙ get_or-set_same registers at one 0 (omega arith) in
+    let j : get_or (set c (at + 3) four) (at + 1) 0 ≡ two =
+    get_or-set_other c (at + 3) (at + 1) four 0 (omega arith)
+    ∙ get_or-set_other b (at + 2) (at + 1) three 0 (omega arith)
+    ∙ get_or-set_same a (at + 1) two 0 (rw length-set (omega arith)) in
+    let k : get_or (set c (at + 3) four) (at + 2) 0 ≡ three =
+    get_or-set_other c (at + 3) (at + 2) four 0 (omega arith) ∙ get_or-set_same b (at + 2) three 0 (rw (length-set, length-set) (omega arith)) in
+    let l : get_or (set c (at + 3) four) (at + 3) 0 ≡ four =
+    get_or-set_same c (at + 3) four 0 (rw (length-set, length-set, length-set) (omega arith)) in
+    rw (i, j, k, l) refl
 
-  register_record : (i : ℕ) → i < register_records → record_at file (i + 1) ≡ four_at (registers_in (records_in file)) (i * registers_a_record)
-  register_record i h =
-      let s : Snapshot = (held file (filled size 0) beside).snapshot in
-      let m = (accepted file size ok).many in
-      let a : get_or (records_in file) (suc i) Bad ≡ record_at file (0 + suc i) = at_records file (count_in file) 0 (suc i) (omega arith) in
-      let b : get_or (records_of s) (suc i) Bad ≡ four_at s.registers (0 + i * registers_a_record) =
-      at_registers s.registers (source_records s.sources ++ dirty_records 0 s.dirty) register_records 0 i h in
-      ap (record_at file) (omega arith)
-      ∙ sym a
-      ∙ ap (λ (rs : List Record). get_or rs (suc i) Bad) (sym (held file (filled size 0) beside).records)
-      ∙ b
-      ∙ ap (four_at s.registers) (omega arith)
-      ∙ ap (λ (l : List ℕ). four_at l (i * registers_a_record)) (sym values)
+module _ (whole : List Record) where
+  -- i records are read, and these are left
+  pub record RegistersRead (registers : List ℕ) (rs : List Record) (i : ℕ) : Type 0 where
+    pub to : RegistersTo whole rs i
+    pub sized : length registers ≡ 32
+    pub all : whole ≡ register_records_of registers 0 i ++ rs
 
--- two lists that agree up to a place
-pub record Agree (l m : List ℕ) (j : ℕ) : Type 0 where
-  pub sized : length m ≡ length l
-  pub upto : take j m ≡ take j l
+  pub read_first : (registers : List ℕ) → length registers ≡ 32 → RegistersRead registers whole 0
+  unfolding register_records_of
+  read_first registers l = record { to = registers-start whole; sized = l; all = refl }
 
-agree_more : (l m : List ℕ) (j k x : ℕ) → Agree l m j → j < length l → k ≡ j + 1 → x ≡ get_or l j 0 → Agree l (set m j x) k
-agree_more l m j k x a h e q =
-    let n : j < length m = omega (arith, a.sized) in
-    record {
-      sized = rw length-set a.sized;
-      upto = rw (e, add-one j, take-suc-set m j x n, take-suc l j 0 h, a.upto, q);
-    }
-
--- the registers of i records are read
-pub record RegistersRead (file : List ℕ) (size : ℕ) (registers : List ℕ) (i : ℕ) : Type 0 where
-  pub file_formed : in_form file size ≡ 0
-  pub within : i ≤ register_records
-  pub agree : Agree (registers_in (records_in file)) registers (i * registers_a_record)
-
-module _ (file : List ℕ) (size : ℕ) (registers : List ℕ) where
-  pub read_first : in_form file size ≡ 0 → length registers ≡ 32 → RegistersRead file size registers 0
-  read_first ok l =
-      record {
-        file_formed = ok;
-        within = omega arith;
-        agree = record { sized = omega (arith, registers-count file size ok); upto = refl };
-      }
-
-  module _ (i : ℕ) (w : RegistersRead file size registers i) where
-    module _ (h : i < register_records) (r : Record) (e : r ≡ record_at file (i + 1)) where
-      is-four : r ≡ four_at (registers_in (records_in file)) (i * registers_a_record)
-      is-four = e ∙ register_record file size w.file_formed i h
-
-      -- no other record stands there
-      pub read_other : NotRegisters r → registers ≡ registers_in (records_in file)
-      read_other t = absurd (miss (0 ∷ 2 ∷ 3 ∷ 4 ∷ []) 1 tt (rw is-four at t))
-
-      pub read_next : (first one two three four : ℕ) → r ≡ Registers first one two three four
-          → RegistersRead file size
-          (set (set (set (set registers (i * registers_a_record) one) (i * registers_a_record + 1) two) (i * registers_a_record + 2) three)
-          (i * registers_a_record + 3) four)
-          (i + 1)
-      read_next first one two three four q =
-          let l : List ℕ = registers_in (records_in file) in
-          let at : ℕ = i * registers_a_record in
-          let n : length l ≡ registers_a_record * register_records = registers-count file size w.file_formed in
-          let z : Registers first one two three four ≡ four_at l at = sym q ∙ is-four in
-          let a : Agree l (set registers at one) (at + 1) = agree_more l registers at (at + 1) one w.agree (omega arith) refl (cc) in
-          let b : Agree l (set (set registers at one) (at + 1) two) (at + 2) = agree_more l _ (at + 1) (at + 2) two a (omega arith) (omega arith) (cc) in
-          let c : Agree l (set (set (set registers at one) (at + 1) two) (at + 2) three) (at + 3) =
-          agree_more l _ (at + 2) (at + 3) three b (omega arith) (omega arith) (cc) in
-          record {
-            file_formed = w.file_formed;
-            within = omega arith;
-            agree = agree_more l _ (at + 3) ((i + 1) * registers_a_record) four c (omega arith) (omega arith) (cc);
-          }
-
-    pub read_end : register_records ≤ i → registers ≡ registers_in (records_in file)
+  module _ (registers : List ℕ) (rs : List Record) (i : ℕ) (w : RegistersRead registers rs i) where
+    pub read_end : register_records ≤ i → whole ≡ register_records_of registers 0 register_records ++ rs
     read_end h =
-        let l : List ℕ = registers_in (records_in file) in
-        let n : length l ≡ registers_a_record * register_records = registers-count file size w.file_formed in
-        let k = w.agree.sized in
-        sym (take_all (i * registers_a_record) registers (omega arith)) ∙ w.agree.upto ∙ take_all (i * registers_a_record) l (omega arith)
+        let k : i ≡ register_records = omega (arith, w.to.within) in
+        rw k at w.all
+
+    module _ (formed : registers_need 0 register_records whole ≢ malformed) (h : i < register_records) where
+      pub read_missing : rs ≡ [] → ⊥
+      read_missing e = formed (registers-none whole rs i w.to h e)
+
+      module _ (r : Record) (ts : List Record) (e : rs ≡ r ∷ ts) where
+        pub read_other : NotRegisters r → ⊥
+        read_other t = formed (registers-other whole rs i w.to h r ts e t)
+
+        module _ (first one two three four : ℕ) (q : r ≡ Registers first one two three four) where
+          in_turn : first ≡ i * registers_a_record
+          in_turn = go (eqb first (i * registers_a_record)) refl
+            where
+              go : (b : Bool) → b ≡ eqb first (i * registers_a_record) → first ≡ i * registers_a_record
+              go true b = eqb-true _ _ (sym b)
+              go false b =
+                  absurd (formed (registers-apart whole rs i w.to h r ts e first one two three four q
+                  (λ k. let z : false ≡ true = b ∙ eq-eqb _ _ k in cc)))
+
+          pub read_next : RegistersRead (set_four registers (i * registers_a_record) one two three four) ts (i + 1)
+          read_next =
+              let at : ℕ = i * registers_a_record in
+              let l : length registers ≡ 32 = w.sized in
+              let s : List ℕ = set_four registers at one two three four in
+              let past : register_records_of s 0 i ≡ register_records_of registers 0 i =
+              set-past _ (at + 3) four 0 i (omega arith)
+              ∙ set-past _ (at + 2) three 0 i (omega arith)
+              ∙ set-past _ (at + 1) two 0 i (omega arith)
+              ∙ set-past registers at one 0 i (omega arith) in
+              let z : 0 + at ≡ at = omega arith in
+              let last : four_at s (0 + at) ≡ r =
+              ap (four_at s) z
+              ∙ four-set registers at one two three four (omega arith) ∙ ap (λ (x : ℕ). Registers x one two three four) (sym in_turn) ∙ sym q in
+              let more : register_records_of s 0 (i + 1) ≡ register_records_of registers 0 i ++ (r ∷ []) =
+              ap (register_records_of s 0) (omega arith)
+              ∙ one-after s 0 i
+              ∙ ap (λ (rs : List Record). rs ++ (four_at s (0 + at) ∷ [])) past
+              ∙ ap (λ (x : Record). register_records_of registers 0 i ++ (x ∷ [])) last in
+              record {
+                to = registers-next whole rs i w.to h r ts e first one two three four q in_turn;
+                sized = rw (length-set, length-set, length-set, length-set) l;
+                all = rw (more, append_assoc, ← e) w.all;
+              }
 
 -- ---- runs
+
+-- a test that the form passed
+later : (b : Bool) (f : Form) → cond b f malformed ≢ malformed → f ≢ malformed
+later true f n = n
+later false f n = absurd (n refl)
 
 -- three steps in turn
 module _ {Op : Type 0} {Reply : Op → Type 0} {S : Type 0} (does : (o : Op) → S → Reply o × S) where
@@ -186,106 +181,107 @@ module _ {Op : Type 0} {Reply : Op → Type 0} {S : Type 0} (does : (o : Op) →
       go true = e (run does g s).1
       go false = refl
 
--- the runs of records, in turn
-abbrev pub restore_all : List ℕ → List ℕ → List ℕ → List Record → Call ℕ
-restore_all directory sources pages rs = each_in (restore_record directory sources pages) rs
+module _ (directory sources page_file : List ℕ) where
+  -- the runs of records, in turn
+  abbrev pub restore_all : List Record → Call ℕ
+  restore_all rs = each_in (restore_record directory sources page_file) rs
 
-module _ (directory sources pages : List ℕ) where
-  dirty-all : (place : ℕ) (ds : List DirtyRun)
-      → restore_all directory sources pages (dirty_records place ds) ≡ each_in (λ r. on_memory (restore_dirty r)) (dirty_in pages (dirty_records place ds))
-  unfolding each_in dirty_records dirty_in
-  dirty-all place [] = refl
-  dirty-all place (d ∷ ds) = rw (dirty-all (place + pages_of d) ds)
+  -- what dirty runs alone hold
+  record DirtyAlone (rs : List Record) : Type 0 where
+    none : sources_in rs ≡ []
+    empty : registers_in rs ≡ []
+    all : restore_all rs ≡ each_in (λ r. on_memory (restore_dirty r)) (dirty_in page_file rs)
 
-  -- source runs, then dirty runs
-  runs-all : (ss : List SourceRun) (ds : List DirtyRun) (t : Tracked)
-      → run does (restore_all directory sources pages (source_records ss ++ dirty_records 0 ds)) t
-      ≡ run does (restore_runs directory sources ss (dirty_in pages (dirty_records 0 ds))) t
-  unfolding run bind after each_in source_records restore_runs
-  runs-all [] ds t = ap (λ (g : Call ℕ). run does g t) (dirty-all 0 ds)
-  runs-all (r ∷ ss) ds t =
-      then_same does (restore_source directory sources r) _ _ t (runs-all ss ds)
-      ∙ then_assoc does (restore_source directory sources r) (each_in (restore_source directory sources) ss) _ t
+  dirty-alone : (place : ℕ) (rs : List Record) → dirty_needs place rs ≢ malformed → DirtyAlone rs
+  unfolding dirty_needs sources_in registers_in dirty_in each_in
+  dirty-alone place [] n = record { none = refl; empty = refl; all = refl }
+  dirty-alone place (Dirty address flag pages at ∷ rs) n =
+      let d : DirtyAlone rs = dirty-alone (place + pages) rs (later (eqb at place) (dirty_needs (place + pages) rs) n) in
+      record { none = d.none; empty = d.empty; all = rw d.all refl }
+  dirty-alone place (Source address flag id offset size ∷ rs) n = absurd (n refl)
+  dirty-alone place (Registers first one two three four ∷ rs) n = absurd (n refl)
+  dirty-alone place (State version pc cycles maximum reservation ∷ rs) n = absurd (n refl)
+  dirty-alone place (Bad ∷ rs) n = absurd (n refl)
 
-drop-records : (file : List ℕ) (n i j : ℕ) → drop j (records_from file i n) ≡ records_from file (i + j) (n - j)
-unfolding records_from
-drop-records file n i zero = rw (add-zero, sub-zero)
-drop-records file zero i (suc j) = let z : 0 - suc j ≡ 0 = omega arith in rw z
-drop-records file (suc n) i (suc j) =
-    let a : i + 1 + j ≡ i + suc j = omega arith in
-    let b : n - j ≡ suc n - suc j = omega arith in
-    drop-records file n (i + 1) j ∙ rw (a, b)
+  -- runs hold no registers
+  no_registers : (rs : List Record) → runs_need rs ≢ malformed → registers_in rs ≡ []
+  unfolding runs_need registers_in
+  no_registers [] n = refl
+  no_registers (Source address flag id offset size ∷ rs) n = no_registers rs n
+  no_registers (Dirty address flag pages at ∷ rs) n = (dirty-alone 0 (Dirty address flag pages at ∷ rs) n).empty
+  no_registers (Registers first one two three four ∷ rs) n = absurd (n refl)
+  no_registers (State version pc cycles maximum reservation ∷ rs) n = absurd (n refl)
+  no_registers (Bad ∷ rs) n = absurd (n refl)
 
--- the runs of a file in the form, from the first record after the registers' on
-abbrev runs_in : List ℕ → List ℕ → List ℕ → List ℕ → Call ℕ
-runs_in directory sources file pages =
-    restore_runs directory sources (sources_in (records_in file)) (dirty_in pages (records_in file))
+  -- what the runs of records come to, as lists of source runs and of dirty runs
+  abbrev pub runs_in : List Record → Call ℕ
+  runs_in rs = restore_runs directory sources (sources_in rs) (dirty_in page_file rs)
 
-module _ (directory sources file pages : List ℕ) (ok : in_form file (length pages) ≡ 0) where
-  runs_from : (t : Tracked)
-      → run does (restore_all directory sources pages (from file (count_in file) least_records)) t
-      ≡ run does (runs_in directory sources file pages) t
-  unfolding register_records_of page_file_of
-  runs_from t =
-      let h : SnapshotIs pages (records_in file) = held file pages ok in
-      let s : Snapshot = h.snapshot in
-      let a : from file (count_in file) least_records ≡ source_records s.sources ++ dirty_records 0 s.dirty =
-      sym (drop-records file (count_in file) 0 least_records) ∙ ap (drop least_records) (sym h.records) in
-      let b : dirty_in pages (dirty_records 0 s.dirty) ≡ s.dirty =
-      rw h.pages at (dirty_read [] 0 s.dirty refl h.shaped.whole) in
-      ap (λ (rs : List Record). run does (restore_all directory sources pages rs) t) a
-      ∙ runs-all directory sources pages s.sources s.dirty t
-      ∙ ap (λ (ds : List DirtyRun). run does (restore_runs directory sources s.sources ds) t) b
-      ∙ ap (λ (x : Snapshot). run does (restore_runs directory sources x.sources x.dirty) t) (sym (is_read file pages ok))
+  pub runs-all : (rs : List Record) → runs_need rs ≢ malformed → (t : Tracked) → run does (restore_all rs) t ≡ run does (runs_in rs) t
+  unfolding run bind after runs_need sources_in dirty_in each_in restore_runs
+  runs-all [] n t = refl
+  runs-all (Source address flag id offset size ∷ rs) n t =
+      let g : Call ℕ = restore_record directory sources page_file (Source address flag id offset size) in
+      then_same does g (restore_all rs) (runs_in rs) t (runs-all rs n)
+      ∙ then_assoc does g (each_in (restore_source directory sources) (sources_in rs)) (each_in (λ r. on_memory (restore_dirty r)) (dirty_in page_file rs)) t
+  runs-all (Dirty address flag pages at ∷ rs) n t =
+      let d : DirtyAlone (Dirty address flag pages at ∷ rs) = dirty-alone 0 (Dirty address flag pages at ∷ rs) n in
+      let z : sources_in rs ≡ [] = d.none in
+      rw z (ap (λ (g : Call ℕ). run does g t) d.all)
+  runs-all (Registers first one two three four ∷ rs) n t = absurd (n refl)
+  runs-all (State version pc cycles maximum reservation ∷ rs) n t = absurd (n refl)
+  runs-all (Bad ∷ rs) n t = absurd (n refl)
 
--- the records that are left, with what is lent as it is, come to what all runs come to at entry
-pub record Restoring (directory sources file pages : List ℕ) (s₀ s : Tracked) (i : ℕ) : Type 0 where
-  pub file_formed : in_form file (length pages) ≡ 0
-  pub slots_kept : length s.0.slots ≡ length s₀.0.slots
-  pub flags_kept : length s.0.flags ≡ length s₀.0.flags
-  pub area_kept : length s.0.area ≡ length s₀.0.area
-  pub records_kept : length s.1 ≡ length s₀.1
-  pub rest : run does (restore_all directory sources pages (from file (count_in file) i)) s ≡ run does (runs_in directory sources file pages) s₀
+  -- the records that are left, with what is lent as it is, come to what all of them come to at entry
+  module _ (whole : List Record) (s₀ : Tracked) where
+    abbrev pub Restoring : List Record → Tracked → Type 0
+    Restoring rs s = run does (restore_all rs) s ≡ run does (restore_all whole) s₀
 
-module _ (directory sources file pages : List ℕ) (s₀ : Tracked) where
-  pub restoring_first : in_form file (length pages) ≡ 0 → Restoring directory sources file pages s₀ s₀ least_records
-  restoring_first ok =
-      record {
-        file_formed = ok;
-        slots_kept = refl;
-        flags_kept = refl;
-        area_kept = refl;
-        records_kept = refl;
-        rest = runs_from directory sources file pages ok s₀;
-      }
+    module _ (rs : List Record) (s : Tracked) (w : Restoring rs s) where
+      pub restored_all : runs_need whole ≢ malformed → rs ≡ [] → (0, s) ≡ run does (runs_in whole) s₀
+      restored_all n e = each_in_none does (restore_record directory sources page_file) s ∙ (rw e at w) ∙ runs-all whole n s₀
 
-  module _ (s : Tracked) (i : ℕ) (w : Restoring directory sources file pages s₀ s i) where
-    pub restored-all : count_in file ≤ i → (0, s) ≡ run does (runs_in directory sources file pages) s₀
-    restored-all h = each_in_none does (restore_record directory sources pages) s ∙ (rw (from_none file (count_in file) i h) at w.rest)
+      module _ (r : Record) (ts : List Record) (e : rs ≡ r ∷ ts) (t : Tracked) where
+        pub restoring_stop : runs_need whole ≢ malformed → (x : Refusal) → (refusal_number x, t) ≡ run does (restore_record directory sources page_file r) s
+            → (refusal_number x, t) ≡ run does (runs_in whole) s₀
+        restoring_stop f x q =
+            each_in_stop does (restore_record directory sources page_file) r ts s _ t false q (refused x) refl ∙ (rw e at w) ∙ runs-all whole f s₀
 
-    module _ (h : i < count_in file) where
-      -- "9 to 1,033 records"
-      pub restoring_more : i + 1 < 2 ^ 64
-      restoring_more = let k = (accepted file (length pages) w.file_formed).few in omega arith
+        pub restoring_next : (0, t) ≡ run does (restore_record directory sources page_file r) s → Restoring ts t
+        restoring_next q = each_in_turn does (restore_record directory sources page_file) r ts s 0 t true q refl refl ∙ (rw e at w)
 
-      module _ (n : ℕ) (t : Tracked) (d : Bool)
-          (q : (n, t) ≡ run does (restore_record directory sources pages (record_at file i)) s) (b : d ≡ eqb n 0) where
-        one : run does (restore_all directory sources pages (record_at file i ∷ from file (count_in file) (i + 1))) s
-            ≡ run does (runs_in directory sources file pages) s₀
-        one = rw (from_one file (count_in file) i h) at w.rest
+-- ---- files in the form, read record by record
+module _ (file pages : List ℕ) (ok : 0 ≡ in_form file (length pages)) where
+  -- the state record first
+  module _ (rs : List Record) (l : rs ≡ records_in file) where
+    pub state-formed : records_need rs ≢ malformed
+    state-formed e =
+        let a : Accepted file (length pages) = accepted file (length pages) (sym ok) in
+        never a.pages (sym (rw l at e) ∙ a.need)
 
-        pub restoring_stop : d ≡ false → (n, t) ≡ run does (runs_in directory sources file pages) s₀
-        restoring_stop c = each_in_stop does (restore_record directory sources pages) _ _ s n t d q b c ∙ one
+    -- after it the register records
+    module _ (k : code-kept.Kept) (ts : List Record) (e : rs ≡ state_record (kept_of_file k) ∷ ts) where
+      pub version-read : (snapshot_in file pages).state.version ≡ k.version
+      unfolding snapshot_in
+      version-read = ap (λ (x : List Record). (kept_in x).version) (sym l ∙ e)
 
-        pub restoring_next : d ≡ true → length t.0.slots ≡ length s.0.slots → length t.0.flags ≡ length s.0.flags
-            → length t.0.area ≡ length s.0.area → length t.1 ≡ length s.1
-            → Restoring directory sources file pages s₀ t (i + 1)
-        restoring_next c e f g k =
-            record {
-              file_formed = w.file_formed;
-              slots_kept = e ∙ w.slots_kept;
-              flags_kept = f ∙ w.flags_kept;
-              area_kept = g ∙ w.area_kept;
-              records_kept = k ∙ w.records_kept;
-              rest = each_in_turn does (restore_record directory sources pages) _ _ s n t d q b c ∙ one;
-            }
+      pub registers-formed : registers_need 0 register_records ts ≢ malformed
+      unfolding records_need
+      registers-formed q = state-formed (rw e q)
+
+      -- after those the runs
+      module _ (registers : List ℕ) (us : List Record) (f : ts ≡ register_records_of registers 0 register_records ++ us) where
+        pub runs-formed : runs_need us ≢ malformed
+        runs-formed q = registers-formed (rw f (registers-need registers us 0 register_records ∙ q))
+
+        pub snapshot-read : length registers ≡ 32 → snapshot_in file pages ≡ snapshot_left k registers pages us
+        unfolding snapshot_in registers_in sources_in dirty_in
+        snapshot-read n =
+            let a : registers_in ts ≡ registers =
+            rw f (registers_read registers us 0 register_records (omega arith)
+            ∙ rw (no_registers [] [] pages us runs-formed) (append-nil registers)) in
+            let b : sources_in ts ≡ sources_in us = rw f (registers-sources registers us 0 register_records) in
+            let c : dirty_in pages ts ≡ dirty_in pages us = rw f (registers-dirty registers us pages 0 register_records) in
+            let z : of_records pages (state_record (kept_of_file k) ∷ ts) ≡ snapshot_left k registers pages us =
+            λ i. record { state = kept_of_file k; registers = a i; sources = b i; dirty = c i } in
+            ap (of_records pages) (sym l ∙ e) ∙ z

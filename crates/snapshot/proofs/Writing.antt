@@ -93,15 +93,15 @@ pub record WritingRegisters (registers file₀ file : List ℕ) (i : ℕ) : Type
       (register_records_of registers (i * registers_a_record) (register_records - i))
 
 module _ (registers file₀ : List ℕ) where
-  pub registers-first : least_records * record_bytes ≤ length file₀ → WritingRegisters registers file₀ file₀ 0
-  registers-first h =
+  pub registers_first : least_records * record_bytes ≤ length file₀ → WritingRegisters registers file₀ file₀ 0
+  registers_first h =
       record {
         in_all = omega arith;
         recorded = recording_first file₀ 1 _ (rw (length_register_records registers 0 register_records) (omega arith));
       }
 
   module _ (file : List ℕ) (i : ℕ) (g : WritingRegisters registers file₀ file i) where
-    pub registers-next : i < register_records → (now : List ℕ)
+    pub registers_next : i < register_records → (now : List ℕ)
         → now ≡ encoded file (i + 1)
         (Registers
         (i * registers_a_record)
@@ -111,7 +111,7 @@ module _ (registers file₀ : List ℕ) where
         (get_or registers (i * registers_a_record + 3) 0))
         → WritingRegisters registers file₀ now (i + 1)
     unfolding register_records_of
-    registers-next h now e =
+    registers_next h now e =
         let z : register_records - i ≡ suc (register_records - (i + 1)) = omega arith in
         let k : (i + 1) * registers_a_record ≡ i * registers_a_record + registers_a_record = omega arith in
         record {
@@ -119,20 +119,20 @@ module _ (registers file₀ : List ℕ) where
           recorded = rw k (recording_next _ _ (rw z at g.recorded) now e);
         }
 
-    pub registers-done : register_records ≤ i
+    pub registers_done : register_records ≤ i
         → file ≡ written file₀ record_bytes (image_of (register_records_of registers 0 register_records))
     unfolding register_records_of
-    registers-done h =
+    registers_done h =
         let z : register_records - i ≡ 0 = omega arith in
         recording_done (rw z at g.recorded)
 
 -- the state record, then those
-pub head-written : (m : Machine) (file state now : List ℕ) → least_records * record_bytes ≤ length file
+pub head_written : (m : Machine) (file state now : List ℕ) → least_records * record_bytes ≤ length file
     → state ≡ encoded file 0 (state_record (kept_of m))
     → now ≡ written state record_bytes (image_of (register_records_of m.registers 0 register_records))
     → now ≡ written file 0 (image_of (head_records m))
 unfolding image_of
-head-written m file state now h e q =
+head_written m file state now h e q =
     let r : Record = state_record (kept_of m) in
     let rs : List ℕ = image_of (register_records_of m.registers 0 register_records) in
     let w : state ≡ written file 0 (image (words_of r)) = rw append-nil at (e ∙ encoded-there file 0 r (omega arith)) in
@@ -159,11 +159,11 @@ module _ (slots area : List ℕ) (page flag count : ℕ) where
   pages-content = rw length-content (omega arith)
 
   -- its record
-  pub run-filed : (file now : List ℕ) (at place : ℕ) → (at + 1) * record_bytes ≤ length file
+  pub run_filed : (file now : List ℕ) (at place : ℕ) → (at + 1) * record_bytes ≤ length file
       → now ≡ encoded file at (Dirty (page * page_size) flag count place)
       → now ≡ written file (at * record_bytes) (image_of (dirty_records place (read_out slots area (a_run page flag count) ∷ [])))
   unfolding dirty_records
-  run-filed file now at place h e = rw pages-content (e ∙ encoded-there file at _ h)
+  run_filed file now at place h e = rw pages-content (e ∙ encoded-there file at _ h)
 
   module _ (flags : List ℕ) (memory : Memory) (fit : Fitting (length slots) (length flags) (length area) memory)
       (inside : page + count ≤ length slots) (some : 0 < count) (all_met : met_run slots memory.used count page ≡ 0) where
@@ -209,7 +209,7 @@ module _ (slots area : List ℕ) (page flag count : ℕ) where
         ap (λ (x : Output × State). x.0.bytes) (e ∙ sym d)
 
     -- in the part of the page file that was lent for them
-    pub run-laid : (pages now : List ℕ) (place k : ℕ) → (place + count) * page_size ≤ length pages
+    pub run_laid : (pages now : List ℕ) (place k : ℕ) → (place + count) * page_size ≤ length pages
         → wrote k 0 now state ≡ laid
         (part pages (place * page_size) (place * page_size + count * page_size - place * page_size))
         (run memory-op.does
@@ -221,7 +221,7 @@ module _ (slots area : List ℕ) (page flag count : ℕ) where
         → take (place * page_size) pages
         ++ (now ++ drop (place * page_size + count * page_size - place * page_size) (drop (place * page_size) pages))
         ≡ written pages (place * page_size) content
-    run-laid pages now place k h e =
+    run_laid pages now place k h e =
         let y : place * page_size + count * page_size - place * page_size ≡ count * page_size = omega arith in
         let out : List ℕ = part pages (place * page_size) (place * page_size + count * page_size - place * page_size) in
         let l : length out ≡ count * page_size = rw y (length_part pages (place * page_size) (count * page_size) (omega arith)) in

@@ -1,7 +1,8 @@
 -- What the code answers, in the words of the definitions.
-use Rattle.std.specs.Prelude.{◌≡◌, Bool, false, cond, List, [], ◌∷◌, ◌++◌, map, ℕ, zero, suc, ◌+◌, ◌*◌, ◌≤◌, ◌<◌, length, eqb}
+use Rattle.std.specs.Prelude.{◌≡◌, cond, List, [], ◌∷◌, ◌++◌, map, ℕ, zero, suc, ◌+◌, ◌*◌, ◌≤◌, length, eqb, Result, Ok, Err}
 use Rattle.bits.specs.Rounding.{page_size}
-use Rattle.outcome.specs.Numbers.{number_of}
+use Rattle.outcome.specs.Numbers.{refusal_number}
+use Rattle.outcome.specs.declared.Refusal.{Refusal}
 use Rattle.words.specs.Bytes.{written}
 use Rattle.memory.specs.Storage.{Fitting, met, byte_in, span}
 use Rattle.memory.specs.declared.Memory.{Memory}
@@ -11,30 +12,31 @@ use Rattle.machine.specs.declared.Machine.{Machine}
 use Rattle.recordfile.specs.declared.Record.{Record}
 use Rattle.recordfile.specs.Words.{record_bytes}
 use Rattle.recordfile.specs.Form.{least_records, register_records}
-use Rattle.recordfile.specs.Snapshots.{Kept, SourceRun, DirtyRun, Snapshot, kept, source_run, dirty_run, state_record, register_records_of, source_records, dirty_records}
-use Rattle.tracking.specs.declared.records.Tracking.{Tracking}
-use Rattle.tracking.specs.declared.records.Tracking.TheVariants.{Untracked, Tracked}
-use Rattle.tracking.specs.Answers.{tracked_of}
-use Rattle.snapshot.specs.Runs.{Run, a_run, dirty_from, sources_from, total}
+use Rattle.recordfile.specs.Snapshots.{Kept, DirtyRun, Snapshot, kept, dirty_run, sources_in, dirty_in, state_record, register_records_of, source_records, dirty_records}
+use Rattle.tracking.specs.declared.storage.TrackedStorage.{TrackedStorage}
+use Rattle.tracking.specs.declared.storage.TrackedLent.{TrackedLent}
+use Rattle.tracking.specs.Answers.{tracked_of, tracked_in, tracked_read}
+use Rattle.snapshot.specs.Runs.{Run, dirty_from, sources_from, total}
 use Rattle.snapshot.specs.MakeSnapshot.{Made}
 use Rattle.snapshot.specs.declared.make.Made as code-made
+use Rattle.snapshot.specs.declared.make.Outputs.{Outputs}
 use Rattle.snapshot.specs.declared.make.Counted.{Counted}
 use Rattle.snapshot.specs.declared.resume.Kept as code-kept
-use Rattle.snapshot.specs.declared.make.DirtySpan.{DirtySpan}
-use Rattle.snapshot.specs.declared.make.DirtySpan.TheVariants as dirty-span
-use Rattle.snapshot.specs.declared.make.SourceSpan.{SourceSpan}
-use Rattle.snapshot.specs.declared.make.SourceSpan.TheVariants as source-span
 
 -- a machine by value, with what is lent to it
 abbrev pub lent_of : List ℕ → List ℕ → List ℕ → List ℕ → Machine → LentMachine
 lent_of slots flags area records m = (tracked_of slots flags area records m.memory, numbers_of m)
 
+-- the same, with what is lent to it to be read
+abbrev pub lent_read : TrackedLent → Machine → LentMachine
+lent_read s m = (tracked_read s m.memory, numbers_of m)
+
 -- ---- a snapshot
 
--- what a snapshot answered, and both outputs that it left; the machine was only read
-abbrev pub made_of : code-made.Made → List ℕ → List ℕ → LentMachine → Made × LentMachine
-made_of r file pages m =
-    (record { number = number_of r.outcome; records = r.records; pages = r.pages; file = file; body = pages }, m)
+-- what a snapshot answered, and both outputs that it left; the machine was only read. "A refused call gives 0 for each number"
+abbrev pub made_of : Result code-made.Made Refusal → List ℕ → List ℕ → LentMachine → Made × LentMachine
+made_of (Ok r) file pages m = (record { number = 0; records = r.records; pages = r.pages; file = file; body = pages }, m)
+made_of (Err e) file pages m = (record { number = refusal_number e; records = 0; pages = 0; file = file; body = pages }, m)
 
 -- the bytes of both files at the front of the outputs; "bytes past them stay"
 abbrev pub laid : List ℕ → List ℕ → Made × LentMachine → Made × LentMachine
@@ -49,35 +51,12 @@ laid file pages r = (
   r.1,
 )
 
--- the runs from a page on, of which the first was found
-abbrev pub dirty_spread : List ℕ → DirtySpan → List Run
-dirty_spread flags dirty-span.End = []
-dirty_spread flags (dirty-span.Run page flag pages) = a_run page flag pages ∷ dirty_from flags (page + pages)
-
-abbrev pub source_spread : List ℕ → List ℕ → SourceSpan → List SourceRun
-source_spread flags records source-span.End = []
-source_spread flags records (source-span.Run page flag id offset pages) =
-    source_run (page * page_size) flag id offset (pages * page_size) ∷ sources_from flags records (page + pages)
-
--- a run found from a page on is inside the pages
-pub record Inside (size from page pages : ℕ) : Type 0 where
-  pub above : from ≤ page
-  pub some : 0 < pages
-  pub within : page + pages ≤ size
-
-abbrev pub DirtyWithin : ℕ → ℕ → DirtySpan → Type 0
-DirtyWithin size from dirty-span.End = Unit {0}
-DirtyWithin size from (dirty-span.Run page flag pages) = Inside size from page pages
-
-abbrev pub SourceWithin : ℕ → ℕ → SourceSpan → Type 0
-SourceWithin size from source-span.End = Unit {0}
-SourceWithin size from (source-span.Run page flag id offset pages) = Inside size from page pages
-
--- a page's entry continues a run whose last page has this flag, id and offset
-abbrev pub follows : Tracking → ℕ → ℕ → ℕ → Bool
-follows Untracked flag id at = false
-follows (Tracked other offset recorded) flag id at =
-    cond (eqb recorded flag) (cond (eqb other id) (eqb offset (at + page_size)) false) false
+-- the same two slices are lent, as long as before
+pub record SameOutputs (old new : Outputs) : Type 0 where
+  pub file : new.file.ghost_name ≡ old.file.ghost_name
+  pub pages : new.pages.ghost_name ≡ old.pages.ghost_name
+  pub file_long : length new.file.now ≡ length old.file.now
+  pub pages_long : length new.pages.now ≡ length old.pages.now
 
 -- ---- the first pass
 
@@ -95,8 +74,9 @@ pub record Count : Type 0 where
 abbrev pub counts : ℕ → ℕ → ℕ → Count
 counts k r n = record { number = k; runs = r; pages = n }
 
-abbrev pub counted_of : Counted → Count
-counted_of c = counts (number_of c.outcome) c.runs c.pages
+abbrev pub counted_of : Result Counted Refusal → Count
+counted_of (Ok c) = counts 0 c.runs c.pages
+counted_of (Err e) = counts (refusal_number e) 0 0
 
 -- runs are met in turn and counted on; the first that refuses decides
 unfoldable pub tally : List ℕ → ℕ → ℕ → ℕ → List Run → Count
@@ -136,15 +116,29 @@ snapshot_now slots flags area records m =
       dirty = dirty_out slots flags area;
     }
 
--- the storage fits, every dirty page is met, and both outputs hold the runs, of which so many are source runs
-pub record Room (slots flags area records file pages : List ℕ) (memory : Memory) (sources : ℕ) : Type 0 where
-  pub fit : Fitting (length slots) (length flags) (length area) memory
-  pub met_all : (tally slots memory.used 0 0 (dirty_from flags 0)).number ≡ 0
-  pub sources_are : sources ≡ length (sources_from flags records 0)
-  pub file_holds : (least_records + sources + length (dirty_from flags 0)) * record_bytes ≤ length file
-  pub pages_hold : total (dirty_from flags 0) * page_size ≤ length pages
+-- the same of what is lent to be read
+abbrev pub snapshot_read : TrackedLent → Machine → Snapshot
+snapshot_read s m = snapshot_now s.slots.now s.flags.now s.area.now s.records.now m
+
+-- the storage fits, every dirty page is met, and both outputs hold the runs: so many source runs and so many dirty runs
+pub record Room (s : TrackedLent) (o : Outputs) (memory : Memory) (sources dirty : ℕ) : Type 0 where
+  pub fit : Fitting (length s.slots.now) (length s.flags.now) (length s.area.now) memory
+  pub met_all : (tally s.slots.now memory.used 0 0 (dirty_from s.flags.now 0)).number ≡ 0
+  pub sources_are : sources ≡ length (sources_from s.flags.now s.records.now 0)
+  pub dirty_are : dirty ≡ length (dirty_from s.flags.now 0)
+  pub file_holds : (least_records + sources + dirty) * record_bytes ≤ length o.file.now
+  pub pages_hold : total (dirty_from s.flags.now 0) * page_size ≤ length o.pages.now
 
 -- ---- resume
 
+-- a machine with what is lent to it
+abbrev pub lent_in : TrackedStorage → Machine → LentMachine
+lent_in s m = (tracked_in s m.memory, numbers_of m)
+
 abbrev pub kept_of_file : code-kept.Kept → Kept
 kept_of_file k = kept k.version k.pc k.cycles k.maximum k.reservation
+
+-- the snapshot of a state record's numbers, of registers, and of the runs of the records that are left
+abbrev pub snapshot_left : code-kept.Kept → List ℕ → List ℕ → List Record → Snapshot
+snapshot_left k registers page_file rs =
+    record { state = kept_of_file k; registers = registers; sources = sources_in rs; dirty = dirty_in page_file rs }

@@ -5,6 +5,7 @@
 // bytes of a source go out as source runs, by their records (crate tracking), and are loaded again at resume.
 //
 //   make     make_snapshot
+//   runs     the runs of dirty pages, and of tracked clean pages, found one by one
 //   resume   resume
 //
 // Both answer on every input and look at all lengths first (refusal 9). What each answers and leaves is one program of specs/
@@ -14,3 +15,4 @@
 
 pub mod make;
 pub mod resume;
+mod runs;

@@ -17,6 +17,7 @@ pub fn read_full<R: Read>(reader: &mut R, buf: &mut [u8]) -> io::Result<usize>
     ensures consumed { IfOk result (λ count. Consumes (R.remaining reader.old) (R.remaining reader.new) (take count buf.new)) }
     ensures front { OnErr result (ConsumesFront (R.remaining reader.old) (R.remaining reader.new) buf.new) }
 {
+    // No `for`: how far a turn goes is what the reader gives.
     let mut done = 0;
     while done < buf.len() {
         let count = reader.read(&mut buf[done..])?;
@@ -33,6 +34,7 @@ pub fn write_full<W: Write>(writer: &mut W, bytes: &[u8]) -> io::Result<()>
     ensures all { OnOk result (Appends (W.contents writer.old) (W.contents writer.new) bytes.now) }
     ensures front { AppendsFront (W.contents writer.old) (W.contents writer.new) bytes.now }
 {
+    // No `for`: how far a turn goes is what the writer takes.
     let mut done = 0;
     while done < bytes.len() {
         let count = writer.write(&bytes[done..])?;

@@ -14,9 +14,9 @@ module _ (slots flags area records : ℕ) (m : Memory) where
   unfolding fits_all
   all_fit a b e t q = rw (← e, t) q
 
-  pub none_fit : (a : Bool) → a ≡ fits_lengths slots flags area m → a ≡ false → false ≡ fits_all slots flags area records m
+  pub none_fit : (a : Bool) → a ≡ fits_lengths slots flags area m → a ≡ false → a ≡ fits_all slots flags area records m
   unfolding fits_all
-  none_fit a e t = rw (← e, t)
+  none_fit a e t = t ∙ rw (← e, t)
 
   -- what a test of all told
   module _ (b : Bool) (e : b ≡ fits_all slots flags area records m) (t : b ≡ true) where

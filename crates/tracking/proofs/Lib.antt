@@ -1,6 +1,8 @@
 -- What holds of sources and tracking. Laws of each call, which the proofs of the functions cite:
 pub mod Lengths
 pub mod InTurn
+pub mod Passed
+pub mod Groups
 pub mod Lookup
 pub mod PageRecords
 pub mod TrackPages

@@ -1,39 +1,28 @@
--- The sources: what an entry gives, the entries that are left, the part of the bytes at a place, and that a place found lies in
--- the bytes.
-use Rattle.std.proofs.Common.{◌≡◌, ℕ, zero, suc, ◌+◌, ◌-◌, ◌*◌, ◌/◌, ◌<◌, ◌≤◌, min, Bool, true, false, cond, eqb, List, [], length, get_or, take, drop, sym, refl, ap, ◌∙◌, subst, arith, length-drop, drop_of_length-le, eq-eqb, ne_eqb, le-leb}
+-- The sources: what an entry gives, the entries that are left, and that a place found lies in the bytes.
+use Rattle.std.proofs.Common.{◌≡◌, ℕ, zero, suc, ◌+◌, ◌-◌, ◌*◌, ◌/◌, ◌<◌, ◌≤◌, min, Bool, true, false, cond, eqb, List, length, get_or, sym, refl, ◌∙◌, subst, arith, eq-eqb, ne_eqb, le-leb}
 use native.Mathlib.Decide.{dec_le}
-use lib.Seq.{take-nil}
 use borrow.Author.Tests.{lt-leb}
 use Rattle.words.proofs.Patch.{length_part}
-use Rattle.memory.proofs.Fill.{take-least}
 use Rattle.tracking.specs.declared.sources.Place.{Place}
-use Rattle.tracking.specs.declared.sources.Place.TheVariants.{Found}
-use Rattle.tracking.specs.Sources.{Data, found, missing, placed, entry_words, data_in, among, find_data, data_of}
+use Rattle.tracking.specs.Sources.{Data, found, found_at, missing, entry_words, data_in, among, find_data, data_of}
 
 -- ---- what an entry gives
 module _ (room start size offset wanted : ℕ) where
-  outside : room < start + size → missing ≡ data_in room start size offset wanted
+  -- it ends past the bytes
+  pub outside : room < start + size → missing ≡ data_in room start size offset wanted
   unfolding data_in
   outside h = simp (lt-leb (start + size) room h)
 
-  -- it starts past the bytes, or ends past them
-  pub entry_past : room < start → missing ≡ data_in room start size offset wanted
-  entry_past h = outside (omega arith)
+  module _ (h : start + size ≤ room) where
+    -- the offset is above its length
+    pub entry-short : size < offset → missing ≡ data_in room start size offset wanted
+    unfolding data_in
+    entry-short o = simp (le-leb (start + size) room h, lt-leb offset size o)
 
-  module _ (h : start ≤ room) where
-    pub entry-over : room - start < size → missing ≡ data_in room start size offset wanted
-    entry-over l = outside (omega arith)
-
-    module _ (l : size ≤ room - start) where
-      -- the offset is above its length
-      pub entry-short : size < offset → missing ≡ data_in room start size offset wanted
-      unfolding data_in
-      entry-short o = simp (le-leb (start + size) room (omega arith), lt-leb offset size o)
-
-      pub entry_found : (count : ℕ) → offset ≤ size → count ≡ min wanted (size - offset)
-          → found (start + offset) count (size - offset) ≡ data_in room start size offset wanted
-      unfolding data_in
-      entry_found count o e = simp (le-leb (start + size) room (omega arith), le-leb offset size o, e)
+    pub entry_found : (full count : ℕ) → offset ≤ size → full ≡ size - offset → count ≡ min wanted full
+        → found (start + offset) count full ≡ data_in room start size offset wanted
+    unfolding data_in
+    entry_found full count o f e = rw (e, f) (simp (le-leb (start + size) room h, le-leb offset size o))
 
 -- ---- the entries that are left from i on
 module _ (directory : List ℕ) (room id offset wanted : ℕ) where
@@ -70,17 +59,6 @@ module _ (directory : List ℕ) (room id offset wanted : ℕ) where
         unfolding among
         left-next n = simp (one_more h, ne_eqb _ _ n) at w
 
--- ---- the part of the bytes at a place
-module _ (sources : List ℕ) (p : Place) (start count full : ℕ) (e : p ≡ Found start count full) where
-  pub data_past : length sources ≤ start → [] ≡ data_of sources (placed p)
-  data_past h = rw (e, drop_of_length-le sources h, take-nil {A = ℕ} count)
-
-  pub data_there : (n : ℕ) → start < length sources → n ≡ min count (length sources - start)
-      → take (start + n - start) (drop start sources) ≡ data_of sources (placed p)
-  data_there n h q =
-      let k : start + n - start ≡ n = omega arith in
-      rw (e, k) (take-least (drop start sources) count n (rw length-drop q))
-
 -- ---- a place found lies in the bytes
 
 -- what a lookup gives: nothing lies past the bytes, and no more is given than remains
@@ -94,8 +72,8 @@ nothing_inside room = record { ends_in = omega arith; in_full = omega arith }
 entry-inside : (room start size offset wanted : ℕ) → Inside room (data_in room start size offset wanted)
 entry-inside room start size offset wanted = elim (dec_le (start + size) room) [
   | yes h ↦ elim (dec_le offset size) [
-    | yes o ↦ subst (Inside room) (entry_found room start size offset wanted (omega arith) (omega arith) _ o refl) (record { ends_in = omega arith; in_full = omega arith })
-    | no o ↦ subst (Inside room) (entry-short room start size offset wanted (omega arith) (omega arith) (omega arith)) (nothing_inside room)
+    | yes o ↦ subst (Inside room) (entry_found room start size offset wanted h _ _ o refl refl) (record { ends_in = omega arith; in_full = omega arith })
+    | no o ↦ subst (Inside room) (entry-short room start size offset wanted h (omega arith)) (nothing_inside room)
   ]
   | no h ↦ subst (Inside room) (outside room start size offset wanted (omega arith)) (nothing_inside room)
 ]
@@ -115,19 +93,18 @@ module _ (directory : List ℕ) (room id offset wanted : ℕ) where
   unfolding find_data
   lookup_inside = among-inside (length directory / entry_words) 0
 
-  module _ (p : Place) (start count full : ℕ) (q : placed p ≡ find_data directory room id offset wanted) (e : p ≡ Found start count full) where
-    placed-inside : Inside room (found start count full)
-    placed-inside = subst (Inside room) (sym q ∙ ap placed e) lookup_inside
+  module _ (p : Place) (q : found_at p ≡ find_data directory room id offset wanted) where
+    placed-inside : Inside room (found_at p)
+    placed-inside = subst (Inside room) (sym q) lookup_inside
 
-    pub found_inside : start + count ≤ room
+    pub found_inside : p.start + p.count ≤ room
     found_inside = placed-inside.ends_in
 
-    pub found-full : count ≤ full
+    pub found-full : p.count ≤ p.full
     found-full = placed-inside.in_full
 
 -- data found in these bytes has the length that was answered
-pub found-length : (directory sources : List ℕ) (id offset wanted : ℕ) (p : Place) (start count full : ℕ)
-    → placed p ≡ find_data directory (length sources) id offset wanted → p ≡ Found start count full
-    → length (data_of sources (placed p)) ≡ count
-found-length directory sources id offset wanted p start count full q e =
-    rw e (length_part sources start count (found_inside directory (length sources) id offset wanted p start count full q e))
+pub found-length : (directory sources : List ℕ) (id offset wanted : ℕ) (p : Place)
+    → found_at p ≡ find_data directory (length sources) id offset wanted → length (data_of sources (found_at p)) ≡ p.count
+found-length directory sources id offset wanted p q =
+    length_part sources p.start p.count (found_inside directory (length sources) id offset wanted p q)

@@ -1,7 +1,7 @@
 -- Pages tracked: one page, a turn of the loop over whole pages, and each way in which a call ends.
-use Rattle.std.proofs.Common.{◌≡◌, ℕ, ◌+◌, ◌-◌, ◌*◌, ◌/◌, ◌%◌, ◌^◌, ◌<◌, ◌≤◌, Bool, true, false, cond, eqb, ltb, leb, List, length, set, sym, refl, ap, ◌∙◌, arith, ltb-true, le-ltb, lt-ltb, eqb-true, le-leb, leb-true}
+use Rattle.std.proofs.Common.{◌≡◌, ℕ, ◌+◌, ◌-◌, ◌*◌, ◌/◌, ◌^◌, ◌<◌, ◌≤◌, Bool, true, false, cond, eqb, ltb, leb, List, length, set, refl, ap, ◌∙◌, arith, ltb-true, le-ltb, lt-ltb, le-leb, leb-true}
 use borrow.Author.Tests.{lt-leb}
-use Rattle.bits.specs.Rounding.{page_size, rounded_up}
+use Rattle.bits.specs.Rounding.{page_size}
 use Rattle.program.specs.Program.{ret, run, perform}
 use Rattle.program.specs.Layers.{own}
 use Rattle.memory.specs.declared.Memory.{Memory}
@@ -12,7 +12,7 @@ use Rattle.tracking.specs.Operations.{Call, does, track!, track_page, clean, top
 use Rattle.tracking.specs.Tracking.{distance, track_from, track_whole, track, track_pages}
 use Rattle.tracking.specs.Answers.{tracked_of}
 use Rattle.tracking.proofs.Lengths.{fit-yes}
-use Rattle.tracking.proofs.InTurn.{Left, left_here, left_none, left-stop, left-turn}
+use Rattle.tracking.proofs.InTurn.{Left, left_none, left-stop, left-turn}
 
 -- ---- one page
 
@@ -39,11 +39,10 @@ module _ (slots flags area records : List ℕ) (m : Memory) (p id offset : ℕ) 
     track-there new f e = rw e (simp (lt-ltb p (length flags) h, le-leb (offset + page_size) top (omega arith)))
 
 -- a page that was tracked is on the machine, and its offset isn't too far
-module _ (m t : Tracked) (p id offset n : ℕ) (d : Bool) (q : (n, t) ≡ run does (perform (own (track! p id offset))) m)
-    (i : d ≡ eqb n 0) (c : d ≡ true) where
+module _ (m t : Tracked) (p id offset : ℕ) (q : (0, t) ≡ run does (perform (own (track! p id offset))) m) where
   replied : ◌≡◌ {A = ℕ} 0 (track_page m p id offset).0
   unfolding run
-  replied = sym (eqb-true n 0 (sym i ∙ c)) ∙ ap (λ (x : ℕ × Tracked). x.0) q
+  replied = ap (λ (x : ℕ × Tracked). x.0) q
 
   told : (p < length m.0.flags) × (offset + page_size ≤ top)
   unfolding track_page
@@ -65,65 +64,32 @@ module _ (m t : Tracked) (p id offset n : ℕ) (d : Bool) (q : (n, t) ≡ run do
 
 -- ---- the loop
 
--- the pages that are left come to what all come to, and `at` is the offset of the next
-pub record Tracking (slots area : List ℕ) (m : Memory) (flags₀ records₀ : List ℕ) (first count id offset : ℕ)
-    (flags records : List ℕ) (page left at : ℕ) : Type 0 where
-  pub pages : Left (track_from first id offset) slots area m flags₀ records₀ count first flags records left page
-  pub place : at ≡ offset + (page - first) * page_size
-  pub onward : first ≤ page
+-- the pages that are left come to what all come to
+abbrev pub Going : Tracked → ℕ → ℕ → ℕ → ℕ → Tracked → ℕ → Type 0
+Going s₀ first count id offset s page = Left (track_from first id offset) s₀ count first s (first + count - page) page
 
-pub tracking-first : (slots area : List ℕ) (m : Memory) (flags records : List ℕ) (first count id offset : ℕ)
-    → Tracking slots area m flags records first count id offset flags records first count offset
-tracking-first slots area m flags records first count id offset =
-    record { pages = left_here _ slots area m flags records count first; place = omega arith; onward = omega arith }
+pub place-next : (first page at offset : ℕ) → first ≤ page → at ≡ offset + (page - first) * page_size
+    → at + page_size ≡ offset + (page + 1 - first) * page_size
+place-next first page at offset h z = omega arith
 
-module _ (slots area : List ℕ) (m : Memory) (flags₀ records₀ : List ℕ) (first count id offset : ℕ)
-    (flags records : List ℕ) (page left at : ℕ)
-    (w : Tracking slots area m flags₀ records₀ first count id offset flags records page left at) where
-  pub tracked-all : left ≤ 0
-      → (0, tracked_of slots flags area records m) ≡ run does (track_whole first count id offset) (tracked_of slots flags₀ area records₀ m)
+module _ (s₀ : Tracked) (first count id offset : ℕ) (s : Tracked) (page at : ℕ) (w : Going s₀ first count id offset s page) where
+  pub tracked-all : first + count ≤ page → (0, s) ≡ run does (track_whole first count id offset) s₀
   unfolding track_whole
-  tracked-all h = left_none w.pages (omega arith)
+  tracked-all h = left_none _ _ _ _ _ _ _ w (omega arith)
 
-  module _ (h : 0 < left) (n : ℕ) (flags₂ records₂ : List ℕ) (d : Bool)
-      (q : (n, tracked_of slots flags₂ area records₂ m) ≡ run does (perform (own (track! page id at))) (tracked_of slots flags area records m))
-      (i : d ≡ eqb n 0) where
-    placed : (n, tracked_of slots flags₂ area records₂ m) ≡ run does (track_from first id offset page) (tracked_of slots flags area records m)
-    placed = q ∙ ap (λ (a : ℕ). run does (perform (own (track! page id a))) (tracked_of slots flags area records m)) w.place
+  module _ (h : page < first + count) (z : at ≡ offset + (page - first) * page_size) (n : ℕ) (t : Tracked)
+      (q : (n, t) ≡ run does (perform (own (track! page id at))) s) where
+    placed : (n, t) ≡ run does (track_from first id offset page) s
+    placed = q ∙ ap (λ (a : ℕ). run does (perform (own (track! page id a))) s) z
 
-    pub tracking-stop : d ≡ false
-        → (n, tracked_of slots flags₂ area records₂ m) ≡ run does (track_whole first count id offset) (tracked_of slots flags₀ area records₀ m)
+    pub tracking-stop : false ≡ eqb n 0 → (n, t) ≡ run does (track_whole first count id offset) s₀
     unfolding track_whole
-    tracking-stop c = left-stop w.pages (left - 1) (omega arith) n flags₂ records₂ d placed i c
+    tracking-stop b = left-stop _ _ _ _ _ _ _ w (first + count - (page + 1)) (omega arith) t n placed b
 
-    pub tracked-page : d ≡ true → length flags₀ < 2 ^ 64 → page + 1 < 2 ^ 64
-    tracked-page c l =
-        let k = w.pages.flags_kept in
-        omega (arith, (told (tracked_of slots flags area records m) (tracked_of slots flags₂ area records₂ m) page id at n d q i c).0)
-
-    pub tracking-next : d ≡ true → length flags₂ ≡ length flags → length records₂ ≡ length records
-        → Tracking slots area m flags₀ records₀ first count id offset flags₂ records₂ (page + 1) (left - 1) (at + page_size)
-    tracking-next c f r =
-        let o = w.onward in
-        let z = w.place in
-        record {
-          pages = left-turn w.pages (left - 1) (omega arith) n flags₂ records₂ d placed i c f r;
-          place = omega arith;
-          onward = omega arith;
-        }
+    pub tracking-next : n ≡ 0 → Going s₀ first count id offset t (page + 1)
+    tracking-next e = left-turn _ _ _ _ _ _ _ w (first + count - (page + 1)) (omega arith) t (rw e at placed)
 
 -- ---- the call
-
--- the next page boundary is as far off as the distance
-boundary : (start : ℕ) → (start + (page_size - 1)) / page_size * page_size ≡ distance start + start
-boundary start = omega arith
-
-same_less : (a b start : ℕ) → a < 2 ^ 64 → b < 2 ^ 64 → start < 2 ^ 64 → (a + start) % 2 ^ 64 ≡ (b + start) % 2 ^ 64 → a ≡ b
-same_less a b start f g h e = omega arith
-
-pub distance_is : (start up r : ℕ) → start < 2 ^ 64 → r < 2 ^ 64 → up ≡ rounded_up start → (r + start) % 2 ^ 64 ≡ up → r ≡ distance start
-distance_is start up r s b e q =
-    same_less r (distance start) start b (omega arith) s (q ∙ e ∙ ap (λ (n : ℕ). n % 2 ^ 64) (boundary start))
 
 -- the pages that are tracked, where the boundary is so far off
 abbrev whole_from : ℕ → ℕ → ℕ → ℕ → ℕ → Call ℕ
@@ -147,10 +113,13 @@ module _ (s : Tracked) (start size id offset : ℕ) (b : Bool) (e : b ≡ fits_t
     track_high i = on false true _ _ (le-ltb _ _ h) (lt-ltb _ _ i) refl refl
 
     module _ (i : start ≤ last_page) where
-      pub track_late : top - offset < d → (2, s) ≡ run does (track_pages start size id offset) s
+      pub track_late : top < offset + d → (2, s) ≡ run does (track_pages start size id offset) s
       unfolding run
-      track_late k = on false false true _ (le-ltb _ _ h) (le-ltb _ _ i) (lt-ltb top (offset + d) (omega arith)) refl
+      track_late k = on false false true _ (le-ltb _ _ h) (le-ltb _ _ i) (lt-ltb top (offset + d) k) refl
 
-      pub track-all : (r : ℕ × Tracked) → d ≤ top - offset → offset < 2 ^ 64 → r ≡ run does (whole_from start size id offset d) s
+      pub track-all : (r : ℕ × Tracked) (from : ℕ) → from ≡ offset + d → from ≤ top
+          → r ≡ run does (track_whole ((start + d) / page_size) ((size - d) / page_size) id from) s
           → r ≡ run does (track_pages start size id offset) s
-      track-all r k o w = on false false false r (le-ltb _ _ h) (le-ltb _ _ i) (le-ltb top (offset + d) (omega arith)) w
+      track-all r from f k w =
+          on false false false r (le-ltb _ _ h) (le-ltb _ _ i) (le-ltb top (offset + d) (omega arith))
+          (w ∙ ap (λ (o : ℕ). run does (track_whole ((start + d) / page_size) ((size - d) / page_size) id o) s) f)

@@ -1,8 +1,7 @@
 -- Sources: a directory over lent bytes, and where the data of an item lies in them.
-use Rattle.std.specs.Prelude.{ℕ, zero, suc, ◌+◌, ◌-◌, ◌*◌, ◌/◌, min, cond, List, length, ◌==◌, nat_le, slice_index}
+use Rattle.std.specs.Prelude.{ℕ, zero, suc, ◌+◌, ◌-◌, ◌*◌, ◌/◌, min, cond, List, length, ◌==◌, nat_le, slice_index, Option, Some, None}
 use Rattle.words.specs.Bytes.{part}
 use Rattle.tracking.specs.declared.sources.Place.{Place}
-use Rattle.tracking.specs.declared.sources.Place.TheVariants.{Found, Missing}
 
 -- "a directory of numbers in threes: id, start, length"
 abbrev pub entry_words : ℕ
@@ -22,10 +21,13 @@ found start count full = record { number = 0; start = start; count = count; full
 abbrev pub missing : Data
 missing = record { number = 6; start = 0; count = 0; full = 0 }
 
--- the number and the values of each case of a place
-abbrev pub placed : Place → Data
-placed (Found start count full) = found start count full
-placed Missing = missing
+-- the values of a place, and of one that may be missing
+abbrev pub found_at : Place → Data
+found_at p = found p.start p.count p.full
+
+abbrev pub placed : Option Place → Data
+placed (Some p) = found_at p
+placed None = missing
 
 -- what an entry gives: "one whose range leaves the bytes, or an offset above its length: .. 6. Otherwise the data is the smaller
 -- of the wanted length and what remains"

@@ -6,6 +6,7 @@
 //
 //   sources   the directory, and the part of the source bytes that an item's data is
 //   records   a page's record
+//   storage   a memory's lent storage with its records
 //   context   Snapshot2Context's calls: context store, mark program, track and untrack
 //
 // Every call answers on every input. Those that are lent a memory with its records look at all lengths first (refusal 9). What
@@ -16,18 +17,17 @@
 pub mod context;
 pub mod records;
 pub mod sources;
+pub mod storage;
 
 ghost use Rattle.std.specs.Prelude.{◌≡◌};
 ghost use Rattle.tracking.specs.Operations.{fits_all};
 
 use memory::Memory;
 
-// Whether the lent lengths are right: the memory's, and the records'.
+// Whether the lent lengths are right: the memory's, and the records'. By themselves, for the structs of storage.rt ask it alike;
+// docs/PROMISES.md has it.
 pub fn lengths_fit(slots: usize, flags: usize, area: usize, records: usize, memory: Memory) -> bool
     ensures { result ≡ fits_all slots flags area records memory }
 {
-    if memory::storage_fits(slots, flags, area, memory) {
-        return machine::records_fit(records, flags as u64);
-    }
-    false
+    memory::storage_fits(slots, flags, area, memory) && machine::records_fit(records, flags as u64)
 }

@@ -1,11 +1,8 @@
--- Laws of `filled`: its length, its bytes, and a turn and the end of filling.
-use mathlib.Core.Path.{◌≡◌, refl, ◌∙◌}
-use Prim.Native.Nat.{ℕ, zero, suc, ◌+◌, ◌≤◌, ◌<◌}
-use native.Mathlib.Omega.{arith}
-use mathlib.Core.List.{List, ◌++◌, append-nil}
-use borrow.Author.Fill.{fill_more}
-use lib.ListN.{length, get_or, drop, set, length-replicate, get_or-replicate}
-use lib.Seq.{drop-length}
+-- Laws of `filled`: its length, its bytes, and the first of them.
+use mathlib.Core.Path.{◌≡◌, refl}
+use Prim.Native.Nat.{ℕ, zero, suc, ◌≤◌, ◌<◌}
+use lib.ListN.{length, get_or, take, length-replicate, get_or-replicate}
+use Rattle.std.proofs.lemmas.List.{take-replicate}
 use Rattle.words.specs.Bytes.{filled}
 
 pub length-filled : (n v : ℕ) → length (filled n v) ≡ n
@@ -23,22 +20,7 @@ filled_zero zero i = refl
 filled_zero (suc n) zero = refl
 filled_zero (suc n) (suc i) = filled_zero n i
 
--- before the first turn of filling
-pub filled_none : (d : List ℕ) (v : ℕ) → d ≡ filled 0 v ++ d
+-- the first of them
+pub take-filled : (n m v : ℕ) → n ≤ m → take n (filled m v) ≡ filled n v
 unfolding filled
-filled_none d v = refl
-
--- a turn of filling: i bytes are done
-pub filled_more : (s d : List ℕ) (i v : ℕ) → i < length s → length s ≡ length d
-    → s ≡ filled i v ++ drop i d
-    → set s i v ≡ filled (i + 1) v ++ drop (i + 1) d
-unfolding filled
-filled_more s d i v h k e = rw e (fill_more i v d (omega arith))
-
--- the end of filling
-pub filled-done : (s d : List ℕ) (i v : ℕ) → length s ≤ i → i ≤ length d → length s ≡ length d
-    → s ≡ filled i v ++ drop i d
-    → s ≡ filled (length d) v
-filled-done s d i v h hi k e =
-    let z : i ≡ length d = omega arith in
-    e ∙ rw (z, drop-length) (append-nil _)
+take-filled n m v h = take-replicate n m v h

@@ -2,6 +2,7 @@
 pub mod Patch
 pub mod Written
 pub mod LittleEndian
+pub mod Std
 pub mod Filled
 pub mod RoundTrip
 pub mod Once

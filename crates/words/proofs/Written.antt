@@ -1,14 +1,13 @@
 -- Laws of `written`: its length, what it is where the bytes fit, one store, two runs of stores, and the bytes that stay.
 use mathlib.Core.Path.{◌≡◌, refl, sym, ap, ◌∙◌}
 use Prim.Native.Nat.{ℕ, zero, suc, ◌+◌, ◌-◌, ◌≤◌, ◌<◌, min}
-use native.Mathlib.Nat.{add-zero, sub-zero}
+use native.Mathlib.Nat.{add-zero}
 use native.Mathlib.Decide.{dec_le}
-use native.Mathlib.Numerals.{add-one}
 use native.Mathlib.Omega.{arith}
 use mathlib.Core.List.{List, [], ◌∷◌, ◌++◌, append_assoc}
 use mathlib.Core.Logic.{◌⊎◌, inl, inr}
-use lib.ListN.{length, take, drop, get_or, set, length-set, length-take, length-drop}
-use lib.Seq.{drop-set-add, drop-cons, length-take-le, take-take, sets, sets-eq, length-sets, set_out, take_all, take-set-le, drop-set-lt, get_or-take, get_or-drop}
+use lib.ListN.{length, take, drop, get_or, set, length-set, length-take}
+use lib.Seq.{drop-set-add, sets, sets-eq, length-sets, set_out, take_all, take-set-le, drop-set-lt, get_or-take, get_or-drop}
 use Rattle.bits.specs.Rounding.{page_size}
 use Rattle.words.specs.Bytes.{part, patch, written}
 use Rattle.words.proofs.Patch.{patch_none, part-patch}
@@ -118,25 +117,3 @@ written_in s l at i h k f =
 pub written_out : (s l : List ℕ) (at i : ℕ) → (i < at) ⊎ (at + length l ≤ i) → get_or (written s at l) i 0 ≡ get_or s i 0
 written_out s l at i (inl h) = written-before s l at i h
 written_out s l at i (inr h) = written_after s l at i h
-
--- a turn of `lay`: one store of those that are left
-pub lay_more : (s l t : List ℕ) (i k e : ℕ) → e ≡ min k (length l) → i < e
-    → written s i (drop i l) ≡ t
-    → written (set s i (get_or l i 0)) (i + 1) (drop (i + 1) l) ≡ t
-lay_more s l t i k e he h w = rw (add-one, ← written_cons) (rw (drop-cons l i 0 (omega arith)) at w)
-
--- the end of `lay`: no byte is left, or no room
-pub lay_done : (s d l : List ℕ) (i e : ℕ) → e ≡ min (length d) (length l) → e ≤ i → length s ≡ length d
-    → written s i (drop i l) ≡ written d 0 l
-    → s ≡ written d 0 l
-lay_done s d l i e he h hs w = rw (written_end s (drop i l) i (rw length-drop (omega arith))) at w
-
--- a copy by way of a page: n bytes of s into p, and from there into d
-pub copied : (d s p q e : List ℕ) (m n : ℕ) → m ≡ min (length s) page_size → n ≡ min (length d) m → length p ≡ page_size
-    → q ≡ written p 0 (part s 0 (n - 0)) → e ≡ written d 0 (part q 0 (n - 0))
-    → e ≡ written d 0 (take page_size s)
-copied d s p q e m n hm hn hp eq ee =
-    let k : length (take n s) ≡ n = length-take-le n s (omega arith) in
-    let t : take n q ≡ take n (take page_size s) =
-    rw (eq, sub-zero, take-take n page_size s (omega arith)) (rw k at (part-written p (take n s) 0 (omega arith))) in
-    ee ∙ rw (sub-zero, t, written_cut d (take page_size s) 0 n (rw length-take (omega arith)))

@@ -6,11 +6,11 @@ use Rattle.memory.proofs.pages_within.Goals as goal
 pub returns-then-size-eq0 : goal.returns-then-size-eq0
 returns-then-size-eq0 c = indices_none _ _ _ c.if-size-eq0.true
 
-pub returns-then-end-address : goal.returns-then-end-address
-returns-then-end-address c = indices-past _ _ _ (omega arith) (omega arith)
+pub returns-in_default : goal.returns-in_default
+returns-in_default c = indices-past _ _ _ (omega arith) (omega (arith, c.in_default.ensures))
 
 pub returns-then-end-bound : goal.returns-then-end-bound
-returns-then-end-bound c = indices-past _ _ _ (omega arith) (omega arith)
+returns-then-end-bound c = indices-past _ _ _ (omega arith) (omega (arith, c.in-Some.ensures))
 
 pub returns : goal.returns
-returns c = indices-are _ _ _ _ (omega arith) (omega arith) (omega arith)
+returns c = indices-are _ _ _ _ (omega arith) (omega (arith, c.in-Some.ensures)) (omega arith)

@@ -1,10 +1,7 @@
--- Invariant: the words read and those that are left are all of them. Measure: how many are left.
+-- Invariant: the words read and those that are left are all of them.
 use borrow.Author.Rules.{rules}
-use Rattle.recordfile.proofs.Decoding.{read_none, read_more, read_done}
+use Rattle.recordfile.proofs.Decoding.{read_more, read_done}
 use Rattle.recordfile.proofs.read_words.Goals as goal
-
-pub loop-i-init : goal.loop-i-init
-loop-i-init c = search (rules, read_none)
 
 pub loop-i-preserved : goal.loop-i-preserved
 loop-i-preserved c = search (rules, read_more)

@@ -18,12 +18,12 @@ pub returns-clause-all : goal.returns-clause-all
 unfolding listed
 returns-clause-all g c =
     let text : c.front.result.now ≡ listing c.args.file.now =
-    c.front.ensures ∙ listing_printed _ _ _ _ _ (search rules) c.list-listed.ensures.out_after c.list-listed.ensures.size_in_bounds in
+    c.front.ensures ∙ (listing_printed _ _ _ _ _ c.unwrap_or-size.ensures (search rules) c.list.ensures.out_after c.list.ensures.size_in_bounds).0 in
     on_ok_weaker c.write_full-2.result (λ last. Appends-trans _ _ _ _ _ c.in_ok-write_full.ensures.all (subst (Appends _ _) text last)) c.write_full-2.ensures.all
 
 pub returns-clause-front : goal.returns-clause-front
 unfolding listed
 returns-clause-front g c =
     let text : c.front.result.now ≡ listing c.args.file.now =
-    c.front.ensures ∙ listing_printed _ _ _ _ _ (search rules) c.list-listed.ensures.out_after c.list-listed.ensures.size_in_bounds in
+    c.front.ensures ∙ (listing_printed _ _ _ _ _ c.unwrap_or-size.ensures (search rules) c.list.ensures.out_after c.list.ensures.size_in_bounds).0 in
     front_right _ _ _ _ _ c.in_ok-write_full.ensures.all (subst (AppendsFront _ _) text c.write_full-2.ensures.front)

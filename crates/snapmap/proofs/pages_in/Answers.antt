@@ -1,11 +1,11 @@
--- One front after another, from the empty one to the whole word.
-use Rattle.std.proofs.Common.{arith, refl}
-use Rattle.snapmap.proofs.Numerals.{whole}
+-- One digit after another.
+use Rattle.std.proofs.Common.{rules}
+use Rattle.snapmap.proofs.Numerals.{reading_next, reading_stops}
 use Rattle.snapmap.proofs.pages_in.Goals as goal
 
-pub returns : goal.returns
-returns c short =
-    let one = c.with_byte-one.ensures ((tt, omega arith), refl) in
-    let two = c.with_byte-two.ensures one in
-    let three = c.with_byte-three.ensures two in
-    whole c.args.word.now c.with_byte.result (omega (arith, c.if-word-eq0.false)) short (c.with_byte.ensures three)
+pub returns-in_err-pages : goal.returns-in_err-pages
+returns-in_err-pages c =
+    rw c.from_residual.ensures (reading_stops _ _ _ c.loop-byte.invariant c.loop-byte-test.true c.in_err-pages.ensures)
+
+pub loop-byte-preserved : goal.loop-byte-preserved
+loop-byte-preserved c = search (rules, reading_next, c.in_ok-pages.ensures)

@@ -1,20 +1,9 @@
--- `words::read_le` meets its contract. Invariant: x is the number in the bytes from at + i on. Measure: i.
-use native.Mathlib.Omega.{arith}
-use borrow.Author.Rules.{rules}
-use Rattle.words.proofs.LittleEndian.{room_for_one, read_none, read_more, read_done}
+-- `words::read_le` meets its contract: std's number of the bytes that are there, and zeros behind them.
+use Rattle.std.proofs.Common.{rules}
+use Rattle.words.proofs.Std.{read_part}
 use Rattle.words.proofs.read_le.Goals as goal
 
-pub loop-i-init : goal.loop-i-init
-loop-i-init c = search (rules, read_none)
-
-pub overflow_mul-x : goal.overflow_mul-x
-overflow_mul-x c = omega (arith, room_for_one (omega arith) c.loop-i.invariant.2.small)
-
-pub overflow_add-x : goal.overflow_add-x
-overflow_add-x c = omega (arith, room_for_one (omega arith) c.loop-i.invariant.2.small)
-
-pub loop-i-preserved : goal.loop-i-preserved
-loop-i-preserved c = search (rules, read_more)
-
 pub returns : goal.returns
-returns c = search (rules, read_done)
+returns c =
+    read_part _ _ _ _ _ _ _ _ (λ i. let h = c.type_inv.s i in search rules) c.min-from.ensures (search rules) (search rules)
+    c.copy_from_slice.ensures.after c.from_le_bytes.ensures

@@ -1,13 +1,14 @@
--- Invariant: the records that are left say, after what was said before them, what all do. Measure: how many are left.
-use borrow.Author.Rules.{rules}
+-- Invariant: the records that are left say, after what was said before them, what all do.
+use Rattle.std.proofs.Common.{rules}
+use Rattle.recordfile.proofs.WholeFile.{left-all}
 use Rattle.listing.proofs.Covered.{saying_all, saying_next, saying_done}
 use Rattle.listing.proofs.pages.said_of.Goals as goal
 
-pub loop-i-init : goal.loop-i-init
-loop-i-init c = search (rules, saying_all)
+pub loop-entry-init : goal.loop-entry-init
+loop-entry-init c = search (rules, saying_all, left-all)
 
-pub loop-i-preserved : goal.loop-i-preserved
-loop-i-preserved c = search (rules, saying_next)
+pub loop-entry-preserved : goal.loop-entry-preserved
+loop-entry-preserved c = search (rules, saying_next, c.in-Some.ensures)
 
 pub returns : goal.returns
-returns c = search (rules, saying_done)
+returns c = search (rules, saying_done, c.in-None.ensures)

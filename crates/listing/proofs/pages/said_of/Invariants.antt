@@ -1,10 +1,8 @@
--- Invariant: the records that are left say, after what was said before them, what all do. Measure: how many are left.
-use Prim.Native.Nat.{◌-◌}
+-- Invariant: the records that are left say, after what was said before them, what all do.
+use Rattle.recordfile.specs.Reader.{left}
+use Rattle.recordfile.specs.Records.{records_in}
 use Rattle.listing.proofs.Covered.{Saying}
 use Rattle.listing.proofs.pages.said_of.Given as goal
 
-abbrev pub invariant-loop-i : goal.invariant-loop-i
-invariant-loop-i l = Saying l.file l.page l.count l.said l.i
-
-abbrev pub decreases-loop-i : goal.decreases-loop-i
-decreases-loop-i l = l.count - l.i
+abbrev pub invariant-loop-entry : goal.invariant-loop-entry
+invariant-loop-entry l = Saying (records_in l.file) l.page.number l.said (left l.entry-iterator)

@@ -1,16 +1,17 @@
--- No number of pages, a page cut short, as many pages as it needs, and another number of them.
-use borrow.Author.Rules.{rules}
-use Rattle.recordfile.proofs.WholeFile.{no-pages, cut-page, all-pages, other-pages}
+-- No form, a page cut short, as many pages as it needs, and another number of them.
+use Rattle.std.proofs.lemmas.Result.{err_from_is_err_and}
+use Rattle.recordfile.proofs.WholeFile.{no-form, cut-page, all-pages, other-pages}
 use Rattle.recordfile.proofs.form.in_form.Goals as goal
 
-pub returns-in_default : goal.returns-in_default
-returns-in_default c = search (rules, no-pages)
+pub returns-in_err-needed : goal.returns-in_err-needed
+returns-in_err-needed c =
+    let p = err_from_is_err_and c.from_residual.result c.from_residual.ensures.1 in rw (p.1, p.2) (no-form _ _ _ c.in_err-needed.ensures)
 
 pub returns-then-pages-ne0 : goal.returns-then-pages-ne0
-returns-then-pages-ne0 c = search (rules, cut-page)
+returns-then-pages-ne0 c = cut-page _ _ _ c.in_ok-needed.ensures c.if-pages-ne0.true
 
-pub returns-then-pages-count : goal.returns-then-pages-count
-returns-then-pages-count c = search (rules, all-pages)
+pub returns-then-eq : goal.returns-then-eq
+returns-then-eq c = all-pages _ _ _ c.in_ok-needed.ensures c.if-pages-ne0.false _ c.eq.ensures c.if-eq.true
 
-pub returns : goal.returns
-returns c = search (rules, other-pages)
+pub returns-else-eq : goal.returns-else-eq
+returns-else-eq c = other-pages _ _ _ c.in_ok-needed.ensures c.if-pages-ne0.false _ c.eq.ensures c.if-eq.false c.ranges.pages.fits

@@ -1,19 +1,19 @@
--- Invariant: the register records that are left come to what all of them come to. Measure: how many are left.
-use borrow.Author.Rules.{rules}
-use Rattle.recordfile.proofs.Judging.{registers-start, registers-other, registers-apart, registers-next, registers-end}
+-- A record that is missing, of another kind, with another number; and the next one.
+use Rattle.std.proofs.Common.{rules}
+use Rattle.recordfile.proofs.Judging.{registers-none, registers-other, registers-apart, registers-next, registers-end}
 use Rattle.recordfile.proofs.form.registers_stand.Goals as goal
 
-pub loop-i-init : goal.loop-i-init
-loop-i-init c = search (rules, registers-start)
-
 pub returns-in_default : goal.returns-in_default
-returns-in_default c = search (rules, registers-other)
+returns-in_default c = registers-none _ _ _ c.loop-i.invariant c.loop-i-test.true (rw c.in_default.is at c.next.ensures.steps).0
+
+pub returns-in_default-entry : goal.returns-in_default-entry
+returns-in_default-entry c = search (rules, registers-other, c.in-Some.ensures)
 
 pub returns-then-first-i : goal.returns-then-first-i
-returns-then-first-i c = search (rules, registers-apart)
+returns-then-first-i c = search (rules, registers-apart, c.in-Some.ensures)
 
 pub loop-i-preserved : goal.loop-i-preserved
-loop-i-preserved c = search (rules, registers-next)
+loop-i-preserved c = search (rules, registers-next, c.in-Some.ensures)
 
 pub returns : goal.returns
 returns c = search (rules, registers-end)

@@ -1,31 +1,31 @@
--- The runs passed are met and counted, and what is left decides. The measure is the pages left.
-use borrow.Author.Rules.{rules}
-use Rattle.snapshot.proofs.Counting.{span_less, dirty-inside, dirty-end, counting, count_none, count-within, count-stop, count_fits, count-on, count-end}
+-- The runs passed are met and counted, and what is left decides.
+use Rattle.std.proofs.Common.{arith}
+use Rattle.std.proofs.lemmas.Result.{err_from_is_err_and}
+use Rattle.memory.proofs.Refused.{refused}
+use Rattle.snapshot.proofs.Counting.{counting, count_within, count_fits, runs_fit, count_stop, count_on, count_end}
 use Rattle.snapshot.proofs.make.count_dirty.Goals as goal
 
-pub loop-p-init : goal.loop-p-init
-loop-p-init c = search (rules, counting)
+pub loop-run-init : goal.loop-run-init
+loop-run-init c =
+    rw (c.into_iter-run-iterator.ensures.into_iter_gives, c.new-run-items.ensures.pages, c.new-run-items.ensures.first) (counting _ _ _)
 
-pub returns-in_default : goal.returns-in_default
-returns-in_default c = search (rules, count_none)
+pub meet_run-requires : goal.meet_run-requires
+meet_run-requires c = omega (arith, count_within c.loop-run.invariant _ _ c.in-Some.ensures.steps)
 
-pub meet_run-outcome-requires : goal.meet_run-outcome-requires
-meet_run-outcome-requires c = search (rules, count-within)
+pub returns-in_err-meet_run : goal.returns-in_err-meet_run
+returns-in_err-meet_run c =
+    let p = err_from_is_err_and c.from_residual.result c.from_residual.ensures.1 in
+    rw (p.1, p.2)
+    (count_stop c.loop-run.invariant _ _ c.in-Some.ensures.steps _ c.in_err-meet_run.ensures (refused c.in_err-meet_run.field-0.0))
 
-pub returns-else-is_done : goal.returns-else-is_done
-returns-else-is_done c = search (rules, count-stop)
+pub overflow_add-runs : goal.overflow_add-runs
+overflow_add-runs c = omega (arith, runs_fit c.loop-run.invariant _ _ c.in-Some.ensures.steps)
 
-pub overflow_add-counted : goal.overflow_add-counted
-overflow_add-counted c = search (rules, count_fits)
+pub overflow_add-pages : goal.overflow_add-pages
+overflow_add-pages c = omega (arith, count_fits c.loop-run.invariant _ _ c.in-Some.ensures.steps)
 
-pub overflow_add-p : goal.overflow_add-p
-overflow_add-p c = search (rules, dirty-end)
-
-pub loop-p-smaller : goal.loop-p-smaller
-loop-p-smaller c = search (rules, span_less, dirty-inside)
-
-pub loop-p-preserved : goal.loop-p-preserved
-loop-p-preserved c = search (rules, count-on)
+pub loop-run-preserved : goal.loop-run-preserved
+loop-run-preserved c = count_on c.loop-run.invariant _ _ c.in-Some.ensures.steps c.in_ok-meet_run.ensures
 
 pub returns : goal.returns
-returns c = search (rules, count-end)
+returns c = count_end c.loop-run.invariant c.in-None.ensures.steps.0

@@ -1,16 +1,17 @@
--- The pages passed are met, and what is left decides. The measure is the pages left.
-use borrow.Author.Rules.{rules}
-use Rattle.snapshot.proofs.Counting.{meeting, meet-stop, meet-on, meet-end}
+-- The pages passed are met, and what is left decides.
+use Rattle.std.proofs.Common.{rules}
+use Rattle.std.proofs.lemmas.Result.{err_from_is_err_and}
+use Rattle.memory.proofs.Refused.{refused}
+use Rattle.snapshot.proofs.Counting.{meet_stop, meet_on, meet_end}
 use Rattle.snapshot.proofs.make.meet_run.Goals as goal
 
-pub loop-p-init : goal.loop-p-init
-loop-p-init c = search (rules, meeting)
+pub returns-in_err-meet : goal.returns-in_err-meet
+returns-in_err-meet c =
+    let p = err_from_is_err_and c.from_residual.result c.from_residual.ensures.1 in
+    rw (p.1, p.2) (meet_stop c.loop-page.invariant (search rules) _ c.in_err-meet.ensures (refused c.in_err-meet.field-0.0))
 
-pub returns-else-is_done : goal.returns-else-is_done
-returns-else-is_done c = search (rules, meet-stop)
-
-pub loop-p-preserved : goal.loop-p-preserved
-loop-p-preserved c = search (rules, meet-on)
+pub loop-page-preserved : goal.loop-page-preserved
+loop-page-preserved c = meet_on c.loop-page.invariant (search rules) c.in_ok-meet.ensures
 
 pub returns : goal.returns
-returns c = search (rules, meet-end)
+returns c = search (rules, meet_end)

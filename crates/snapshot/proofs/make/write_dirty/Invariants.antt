@@ -1,12 +1,27 @@
--- Invariant: the runs that are left, from their record and their page on, make both files. Measure: how many pages are left.
-use Prim.Native.Nat.{◌-◌}
-use lib.ListN.{length}
+-- The runs that are left, from their record and their page on, make both files.
+use Rattle.std.proofs.Common.{◌≡◌, ◌+◌}
+use Rattle.snapshot.specs.Runs.{dirty_from}
+use Rattle.snapshot.specs.Answers.{SameOutputs}
 use Rattle.snapshot.proofs.Files.{WritingDirty}
 use Rattle.snapshot.proofs.make.write_dirty.Given as goal
 
-abbrev pub invariant-loop-p : goal.invariant-loop-p
-invariant-loop-p l =
-    WritingDirty l.slots l.flags l.area l.initial.file l.initial.pages l.memory l.from l.file l.pages l.at l.place l.p
-
-abbrev pub decreases-loop-p : goal.decreases-loop-p
-decreases-loop-p l = length l.flags - l.p
+abbrev pub invariant-loop-at : goal.invariant-loop-at
+invariant-loop-at l =
+    record {
+      end : l.at-iterator.a.end ≡ l.from + l.count;
+      writing : WritingDirty
+          l.lent.slots.now
+          l.lent.flags.now
+          l.lent.area.now
+          l.initial.outputs.file.now
+          l.initial.outputs.pages.now
+          l.memory
+          l.from
+          l.count
+          l.outputs.file.now
+          l.outputs.pages.now
+          l.at-iterator.a.start
+          l.place
+          (dirty_from l.at-iterator.b.pages.flags.now l.at-iterator.b.at);
+      same : SameOutputs l.initial.outputs l.outputs;
+    }

@@ -1,10 +1,11 @@
 -- The machine's numbers, then the runs.
-use borrow.Author.Rules.{rules}
-use Rattle.snapshot.proofs.Files.{file-written, pages-written}
+use Rattle.snapshot.proofs.Files.{runs-filed, file-written, pages_written}
 use Rattle.snapshot.proofs.make.write_files.Goals as goal
 
-pub returns-clause-file_after : goal.returns-clause-file_after
-returns-clause-file_after c = search (rules, file-written)
+pub returns-clause-file : goal.returns-clause-file
+returns-clause-file c =
+    file-written _ _ _ _ _ _ _ c.args.machine c.write_head.ensures
+    (runs-filed _ _ _ _ _ _ _ _ c.requires.sources_are c.write_sources.ensures c.write_dirty.ensures.file)
 
-pub returns-clause-pages_after : goal.returns-clause-pages_after
-returns-clause-pages_after c = search (rules, pages-written)
+pub returns-clause-pages : goal.returns-clause-pages
+returns-clause-pages c = pages_written _ _ _ c.args.tracked.records.now _ _ c.args.machine c.write_dirty.ensures.pages

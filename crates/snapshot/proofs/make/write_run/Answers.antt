@@ -1,10 +1,10 @@
 -- The record of the run, then a load of its pages into their part of the page file.
-use borrow.Author.Rules.{rules}
-use Rattle.snapshot.proofs.Writing.{run-filed, run-laid}
+use Rattle.std.proofs.Common.{rules}
+use Rattle.snapshot.proofs.Writing.{run_filed, run_laid}
 use Rattle.snapshot.proofs.make.write_run.Goals as goal
 
-pub returns-clause-file_after : goal.returns-clause-file_after
-returns-clause-file_after c = search (rules, run-filed)
+pub returns-clause-file : goal.returns-clause-file
+returns-clause-file c = search (rules, run_filed)
 
-pub returns-clause-pages_after : goal.returns-clause-pages_after
-returns-clause-pages_after c = search (rules, run-laid)
+pub returns-clause-pages : goal.returns-clause-pages
+returns-clause-pages c = search (rules, run_laid)

@@ -1,16 +1,11 @@
--- Invariant: the registers of the records that are read are those of the file. Measure: how many records are left.
-use borrow.Author.Rules.{rules}
-use Rattle.snapshot.proofs.RestoredRuns.{read_first, read_other, read_next, read_end}
+-- The record that stands there is the next register record.
+use Rattle.std.proofs.Common.{rules}
+use Rattle.snapshot.proofs.RestoredRuns.{read_other, read_next}
 use Rattle.snapshot.proofs.resume.registers_in.Goals as goal
 
-pub loop-i-init : goal.loop-i-init
-loop-i-init c = search (rules, read_first)
-
-pub returns-in_default : goal.returns-in_default
-returns-in_default c = search (rules, read_other)
+pub unreachable-requires-in_default-entry : goal.unreachable-requires-in_default-entry
+unreachable-requires-in_default-entry c =
+    read_other _ _ _ _ c.loop-i.invariant c.requires (search rules) _ _ c.in-Some.ensures.steps (search rules)
 
 pub loop-i-preserved : goal.loop-i-preserved
-loop-i-preserved c = search (rules, read_next)
-
-pub returns : goal.returns
-returns c = search (rules, read_end)
+loop-i-preserved c = search (rules, read_next, c.in-Some.ensures)

@@ -1,26 +1,21 @@
--- Invariant: the records that are left, with what is lent as it is, come to what all runs come to at entry. Measure: how many are left.
-use borrow.Author.Rules.{rules}
-use Rattle.snapshot.proofs.RestoredRuns.{pages-whole, restoring_first, restoring_more, restoring_stop, restoring_next, restored-all}
+-- The records from this one on decide.
+use Rattle.std.proofs.Common.{rules}
+use Rattle.memory.proofs.Refused.{passed_on}
+use Rattle.snapshot.proofs.RestoredRuns.{restored_all, restoring_stop, restoring_next}
 use Rattle.snapshot.proofs.resume.restore_runs.Goals as goal
 
-pub loop-i-init : goal.loop-i-init
-loop-i-init c = search (rules, restoring_first)
+pub returns-in_err-restore_record-clause-value : goal.returns-in_err-restore_record-clause-value
+returns-in_err-restore_record-clause-value c =
+    rw (passed_on c.from_residual.ensures.1)
+    (restoring_stop _ _ _ _ _ _ _ c.loop-entry.invariant.going _ _ c.in-Some.ensures.steps _ c.requires _
+    c.in_err-restore_record.ensures.value)
 
-pub restore_record-answer-requires : goal.restore_record-answer-requires
-restore_record-answer-requires c = search (rules, pages-whole)
+pub loop-entry-preserved : goal.loop-entry-preserved
+loop-entry-preserved c =
+    record {
+      going = restoring_next _ _ _ _ _ _ _ c.loop-entry.invariant.going _ _ c.in-Some.ensures.steps _ c.in_ok-restore_record.ensures.value;
+      same = search rules;
+    }
 
-pub returns-else-is_done : goal.returns-else-is_done
-returns-else-is_done c = search (rules, restoring_stop)
-
-pub overflow_add-i : goal.overflow_add-i
-overflow_add-i c = search (rules, restoring_more)
-
-pub loop-i-preserved : goal.loop-i-preserved
-loop-i-preserved c =
-    restoring_next _ _ _ _ _ _ _
-    c.loop-i.invariant
-    c.loop-i-test.true _ _ _
-    c.restore_record-answer.ensures c.is_done.ensures c.if-is_done.true (search rules) (search rules) (search rules) (search rules)
-
-pub returns : goal.returns
-returns c = restored-all _ _ _ _ _ _ _ c.loop-i.invariant c.loop-i-test.false
+pub returns-clause-value : goal.returns-clause-value
+returns-clause-value c = restored_all _ _ _ _ _ _ _ c.loop-entry.invariant.going c.requires c.in-None.ensures.steps.0

@@ -1,19 +1,10 @@
--- Invariant: the pages that are left, with the flags as they are, come to what all come to with those at entry. Measure: how many are left.
-use borrow.Author.Rules.{rules}
-use Rattle.snapshot.proofs.Restored.{setting_first, setting_stop, setting_next, set_all, set-page}
+-- A page that refuses.
+use Rattle.std.proofs.Common.{rules}
+use Rattle.memory.proofs.Refused.{passed_on}
+use Rattle.snapshot.proofs.Restored.{setting_stop}
 use Rattle.snapshot.proofs.resume.set_flags.Goals as goal
 
-pub loop-left-init : goal.loop-left-init
-loop-left-init c = search (rules, setting_first)
-
-pub returns-else-is_done : goal.returns-else-is_done
-returns-else-is_done c = search (rules, setting_stop)
-
-pub overflow_add-page : goal.overflow_add-page
-overflow_add-page c = search (rules, set-page)
-
-pub loop-left-preserved : goal.loop-left-preserved
-loop-left-preserved c = search (rules, setting_next)
-
-pub returns : goal.returns
-returns c = search (rules, set_all)
+pub returns-in_err-set_flag-clause-value : goal.returns-in_err-set_flag-clause-value
+returns-in_err-set_flag-clause-value c =
+    rw (passed_on c.from_residual.ensures.1)
+    (setting_stop _ _ _ _ _ _ c.loop-page.invariant.going (search rules) _ _ c.in_err-set_flag.ensures.value)

@@ -1,12 +1,8 @@
--- The run, then the tracking.
-use borrow.Author.Rules.{rules}
-use Rattle.snapshot.proofs.Restored.{source-stored, source-refused}
+-- The run's refusal.
+use Rattle.memory.proofs.Refused.{passed_on}
+use Rattle.snapshot.proofs.Restored.{source_refused}
 use Rattle.snapshot.proofs.resume.store_source.Goals as goal
 
-pub returns-then-is_done : goal.returns-then-is_done
-returns-then-is_done c =
-    source-stored _ _ _ _ _ _ _ _ _ _ c.store_run-answer.ensures c.is_done.ensures _
-    c.if-is_done.true c.track_pages-tracked.ensures
-
-pub returns : goal.returns
-returns c = search (rules, source-refused)
+pub returns-in_err-store_run-clause-value : goal.returns-in_err-store_run-clause-value
+returns-in_err-store_run-clause-value c =
+    rw (passed_on c.from_residual.ensures.1) (source_refused _ _ _ _ _ _ _ _ c.in_err-store_run.ensures.value)

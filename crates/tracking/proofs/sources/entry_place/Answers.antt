@@ -1,22 +1,20 @@
 -- An entry that leaves the bytes, an offset above its length, and what is found.
-use Rattle.std.proofs.Common.{◌≡◌, ℕ, ◌+◌, ◌-◌, rules}
-use Rattle.tracking.specs.Sources.{found, data_in}
-use Rattle.tracking.proofs.Lookup.{entry_past, entry-over, entry-short, entry_found}
+use Rattle.std.proofs.Common.{arith}
+use Rattle.tracking.proofs.Lookup.{outside, entry-short, entry_found}
 use Rattle.tracking.proofs.sources.entry_place.Goals as goal
 
-pub returns-then-bound-start : goal.returns-then-bound-start
-returns-then-bound-start c = search (rules, entry_past)
+pub returns-in_err-end : goal.returns-in_err-end
+returns-in_err-end c = rw c.from_residual.ensures (outside _ _ _ _ _ (omega (arith, c.in_err-end.ensures)))
 
-pub returns-then-bound-start-2 : goal.returns-then-bound-start-2
-returns-then-bound-start-2 c = search (rules, entry-over)
+pub returns-then-end-room : goal.returns-then-end-room
+returns-then-end-room c = outside _ _ _ _ _ (omega (arith, c.in_ok-end.ensures))
 
-pub returns-then-size-offset : goal.returns-then-size-offset
-returns-then-size-offset c = search (rules, entry-short)
+pub returns-in_err-full : goal.returns-in_err-full
+returns-in_err-full c =
+    rw c.from_residual-in_err-full.ensures (entry-short _ _ _ _ _ (omega (arith, c.in_ok-end.ensures)) (omega (arith, c.in_err-full.ensures)))
 
 pub returns : goal.returns
 returns c =
     let a = c.args in
-    let n : ℕ = c.least-count.result in
-    let e : found (a.start + a.offset) n (a.size - a.offset) ≡ data_in a.room a.start a.size a.offset a.wanted =
-    entry_found a.room a.start a.size a.offset a.wanted c.if-bound-start.false c.if-bound-start-2.false n c.if-size-offset.false c.least-count.ensures in
-    e
+    entry_found a.room a.start a.size a.offset a.wanted (omega (arith, c.in_ok-end.ensures)) _ _ (omega (arith, c.in_ok-full.ensures))
+    (omega (arith, c.in_ok-full.ensures)) c.min.ensures

@@ -1,6 +1,0 @@
-use borrow.Author.Rules.{rules}
-use Rattle.host.proofs.Handed.{number_on}
-use Rattle.host.proofs.latchpebble_sparse_set_flag.Goals as goal
-
-pub returns : goal.returns
-returns c = search (rules, number_on)

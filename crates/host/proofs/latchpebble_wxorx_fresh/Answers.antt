@@ -1,6 +1,0 @@
-use borrow.Author.Rules.{rules}
-use Rattle.host.proofs.Handed.{fresh_on}
-use Rattle.host.proofs.latchpebble_wxorx_fresh.Goals as goal
-
-pub returns : goal.returns
-returns c = search (rules, fresh_on)

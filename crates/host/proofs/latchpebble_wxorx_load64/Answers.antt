@@ -1,6 +1,0 @@
-use borrow.Author.Rules.{rules}
-use Rattle.host.proofs.Handed.{value_on}
-use Rattle.host.proofs.latchpebble_wxorx_load64.Goals as goal
-
-pub returns : goal.returns
-returns c = search (rules, value_on)

@@ -1,9 +1,0 @@
--- The form, with its numbers.
-use borrow.Author.Rules.{rules}
-use Rattle.listing.specs.Texts.{text}
-use Rattle.listing.proofs.Tiled.{dirty_form}
-use Rattle.listing.proofs.tiles.put_dirty.Goals as goal
-
-pub returns : goal.returns
-unfolding text
-returns c = search (rules, dirty_form)

@@ -165,7 +165,7 @@ extern "C" {
 #define LATCHPEBBLE_LEAST_RECORDS 9
 #define LATCHPEBBLE_MOST_RECORDS 1033
 
-/* The most bytes of stack that a call needs. Measured: the deepest takes some 2,100. */
+/* The most bytes of stack that a call needs. Measured: the deepest takes some 2,300. */
 #define LATCHPEBBLE_STACK 4096
 
 /* ---- numbers ---- */

@@ -25,7 +25,7 @@ ghost use Rattle.listing.specs.Listing.{letter_e, line, told, laid, list_into, m
 ghost use Rattle.listing.specs.Writer.{Adds, Room, SameOutput};
 
 use outcome::Refusal;
-use recordfile::form::judge;
+use recordfile::form::needed_pages;
 use recordfile::{MOST_RECORDS, RECORD_BYTES};
 use writer::{MOST_DIGITS, MOST_NUMBERS, Writer};
 
@@ -59,7 +59,7 @@ pub fn list(file: &[u8], out: &mut [u8]) -> Result<usize, Refusal>
         return Err(Refusal::OutputTooShort);
     }
     let mut text = Writer { out, end: 0 };
-    if let Err(refusal) = judge(file) {
+    if let Err(refusal) = needed_pages(file) {
         put_refusal(&mut text, refusal);
         return Ok(text.end);
     }

@@ -14,7 +14,7 @@ use super::tiles::{MOST_TILE, ROW_TILES};
 use super::writer::Writer;
 use super::{MOST_PAGES, put_refusal, tiles};
 use outcome::Refusal;
-use recordfile::form::judge;
+use recordfile::form::needed_pages;
 
 // The height of what stands above the tiles, of a row, and of the margin below.
 const TOP: u64 = 160;
@@ -134,7 +134,7 @@ pub fn draw(file: &[u8], out: &mut [u8], pages: u64) -> Result<usize, Refusal>
         return Err(Refusal::OutputTooShort);
     }
     let mut text = Writer { out, end: 0 };
-    if let Err(refusal) = judge(file) {
+    if let Err(refusal) = needed_pages(file) {
         put_refusal(&mut text, refusal);
         return Ok(text.end);
     }

@@ -1,8 +1,8 @@
 // The machine: registers, pc and pending pc, version, cycles and their maximum, above its memory: machine/mod.rs, cut.
 //
 // Document 01, the machine's row of "What is ported". A machine goes in by value, as `self` or `mut self`, and comes back whole, on
-// a refusal too; nothing of it is held elsewhere. Its memory is W^X over sparse memory: a call on it takes `memory()` and what is lent, and
-// `with_memory` takes back what such a call answered. A fresh machine also has every page's record untracked.
+// a refusal too; nothing of it is held elsewhere. Its memory is W^X over sparse memory: a call on it is lent the field,
+// which `memory()` hands out and `with_memory` takes back, and what is lent beside. A fresh machine also has every page's record untracked.
 //
 // What each method answers and leaves is a definition of specs/Numbers.antt; what `fresh` does is one of specs/Fresh.antt.
 #![tactic(auto)]
@@ -59,7 +59,9 @@ pub fn records_fit(words: usize, pages: u64) -> bool
 pub fn untrack_all(records: &mut [u64])
     ensures { records.new ≡ filled (length records.old) 0 }
 {
-    records.fill(0);
+    for word in records {
+        *word = 0;
+    }
 }
 
 // A machine with nothing done yet, of a version, a maximum of cycles and a memory.

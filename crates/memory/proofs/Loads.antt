@@ -1,10 +1,12 @@
 -- Pages that are met in turn, and what a load of a number or of bytes comes to.
-use Rattle.std.proofs.Common.{◌≡◌, ℕ, zero, suc, ◌+◌, ◌-◌, ◌*◌, ◌/◌, ◌%◌, ◌<◌, ◌≤◌, min, Bool, true, false, cond, eqb, ltb, List, length, sym, refl, ap, ◌∙◌, arith, le-ltb, lt-ltb, eq-eqb, ne_eqb, eqb-true}
+use Rattle.std.proofs.Common.{◌≡◌, ℕ, zero, suc, ◌+◌, ◌-◌, ◌*◌, ◌/◌, ◌%◌, ◌<◌, ◌≤◌, min, Bool, true, false, cond, eqb, ltb, List, ◌++◌, length, drop, replicate, sym, refl, ap, ◌∙◌, arith, le-ltb, lt-ltb, eq-eqb, ne_eqb, eqb-true}
 use native.Mathlib.Decide.{dec_lt}
 use Rattle.bits.specs.Rounding.{page_size}
-use Rattle.words.specs.Bytes.{written, filled}
+use Rattle.words.specs.Bytes.{patch, written, filled}
 use Rattle.words.specs.LittleEndian.{from_le, Read}
-use Rattle.words.proofs.Written.{part-written, written_none}
+use Rattle.std.specs.Int.{w64, from_le_bytes}
+use Rattle.words.proofs.Std.{from_le-front}
+use Rattle.words.proofs.Written.{written-fits, written_none}
 use Rattle.program.specs.Program.{ret, ask, run, perform, after, and_then, each}
 use Rattle.program.proofs.Laws.{after-done, after_stop, then_done, then_stop, each_none, each_turn, each-stop}
 use Rattle.memory.specs.declared.Memory.{Memory}
@@ -146,14 +148,16 @@ module _ (s : State) (a n : ℕ) where
         unfolding load
         load-second t = after_stop does no_value (meets a n) _ s j s b (meeting-stop next j b q o (omega arith) s refl refl t) o t
 
-        pub load-two : b ≡ true → (front bytes : List ℕ) (v : ℕ) → bytes ≡ written front 0 (span (byte_at s) a n) → n ≤ length front
-            → Read bytes 0 (min n 8) v → (valued v, s) ≡ run does (load n a) s
-        load-two t front bytes v w l r =
-            let x : min n 8 ≡ n = omega arith in
-            let y : length (span (byte_at s) a n) ≡ n = length-span (byte_at s) n a in
-            let p = rw y at (part-written front (span (byte_at s) a n) 0 (omega arith)) in
+        pub load-two : b ≡ true → (bytes : List ℕ) (v : ℕ) → bytes ≡ written (replicate 8 0) 0 (span (byte_at s) a n)
+            → v ≡ from_le_bytes w64 bytes → (valued v, s) ≡ run does (load n a) s
+        load-two t bytes v w r =
+            let l : List ℕ = span (byte_at s) a n in
+            let y : length l ≡ n = length-span (byte_at s) n a in
+            let e : 0 + length l ≡ n = omega (arith, y) in
+            let p : patch (replicate 8 0) 0 l ≡ l ++ drop n (replicate 8 0) = ap (λ (k : ℕ). l ++ drop k (replicate 8 0)) e in
+            let f : bytes ≡ l ++ drop n (replicate 8 0) = w ∙ written-fits (replicate 8 0) l 0 (rw y (omega arith)) ∙ p in
             let g = meeting_more next j b q o (omega arith) t in
-            loaded v (meeting-done g s refl refl (omega arith)) (r.value ∙ rw (x, w) (ap from_le p))
+            loaded v (meeting-done g s refl refl (omega arith)) (r ∙ ap (from_le_bytes w64) f ∙ from_le-front n l h8 y)
 
 -- the page after the first is there: the bytes lie below the maximum
 pub load_end : (slots : List ℕ) (flags area : ℕ) (m : Memory) (a n k : ℕ) (d : Bool) → Fitting (length slots) flags area m → n ≤ 8

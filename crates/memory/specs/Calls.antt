@@ -14,8 +14,7 @@ pub data Layer : Type 0 where
   on_wxorx : Layer
 
 -- every public call on a memory but fresh and clear_flag; n is a width in bytes, of store_number, load_number and execute_load
--- too. store_over and store_apart mean what store_bytes does, and store_here does that or nothing; get_page_indices, storage_fits
--- and meet are lent no memory
+-- too. store, store_over and store_apart mean what store_bytes does; get_page_indices, storage_fits and meet are lent no memory
 pub data Named : Type 0 where
   init_pages_call : Layer → ℕ → ℕ → ℕ → ℕ → List ℕ → Named
   fill_page_data_call : ℕ → ℕ → ℕ → List ℕ → Named

@@ -1,5 +1,5 @@
 -- What functions promise each other beside the definitions: places, what a fetched page is known to be, and what was done to bytes
--- of one page that is in a slot. `Same` and `Did` are promised by public ones, store_over and store_here; the others by private ones.
+-- of one page that is in a slot. `Same` is promised by a public one, store_over; the others by private ones, or by none (`Did`).
 use Rattle.std.specs.Prelude.{◌≡◌, ℕ, ◌+◌, ◌*◌, ◌/◌, ◌%◌, ◌<◌, ◌≤◌, Bool, true, false, List, length, bit_and, slice_index}
 use Rattle.bits.specs.Rounding.{page_size}
 use Rattle.program.specs.Program.{run}

@@ -11,13 +11,15 @@ use bits::RISCV_PAGESIZE;
 impl Memory {
     // The slot of the page that n bytes from an address on lie in, where the lengths are right, the bytes are in one page, and it has
     // a slot in use.
+    #[inline(always)]
     fn slot_here(self, lent: Lent, address: u64, n: usize) -> Option<usize>
         ensures { IfSome result (λ slot. (slot < self.used) × Spot lent.entry.slots.now (length lent.entry.flags.now) (length lent.entry.area.now) self address n slot) }
     {
-        if !lent.fits(self) {
+        // First, as a store that goes on looks at the lengths once more.
+        if n > RISCV_PAGESIZE - (address % PAGE) as usize {
             return None;
         }
-        if n > RISCV_PAGESIZE - (address % PAGE) as usize {
+        if !lent.fits(self) {
             return None;
         }
         let slot = slot_of(lent.slots, (address / PAGE) as usize);
@@ -30,6 +32,7 @@ impl Memory {
 
     // Stores bytes, if there are any, in a page whose flag has no bit of `mask`, which is a flag's own bits, 0 for any
     // page; whether it did. A closure for the two callers is no plainer.
+    #[inline(always)]
     pub(crate) fn store_here(
         self,
         storage: &mut Storage,
@@ -41,6 +44,9 @@ impl Memory {
         ensures same { SameSlices storage.old storage.new }
     {
         let n = bytes.len();
+        if n == 0 {
+            return false;
+        }
         let Some(slot) = self.slot_here(storage.lent(), address, n) else {
             return false;
         };
@@ -48,14 +54,12 @@ impl Memory {
         if storage.flags[p] & mask != 0 {
             return false;
         }
-        if n == 0 {
-            return false;
-        }
         storage.write(p, slot, (address % PAGE) as usize, bytes);
         true
     }
 
     // The number in n bytes from an address on.
+    #[inline(always)]
     pub(crate) fn load_here(self, lent: Lent, address: u64, n: usize) -> Option<u64>
         requires { (0 < n) × (n ≤ 8) }
         ensures { IfSome result (λ v. LoadHere v (read_in lent.entry self) address n) }

@@ -13,7 +13,7 @@ ghost use Rattle.memory.specs.WXorX.{in_bounds, init_flag};
 ghost use Rattle.memory.specs.Sparse as sparse;
 ghost use Rattle.memory.specs.WXorX as wxorx;
 ghost use Rattle.memory.specs.Answers.{value_of};
-ghost use Rattle.memory.specs.Inner.{Did, Same};
+ghost use Rattle.memory.specs.Inner.{Same};
 ghost use Rattle.memory.specs.Lent.{seen, read_in, SameSlices, bytes_of, width_of};
 
 use super::storage::{Bytes, Lent, Storage, Width};
@@ -42,7 +42,8 @@ pub trait Layer {
     fn execute_load(memory: Memory, lent: Lent, address: u64, width: Width) -> Result<u64, Refusal>
         ensures { (value_of result, read_in lent.entry memory) ≡ run does (executes (width_of width) address) (read_in lent.entry memory) };
 
-    // Fills pages with zeros, the source and zeros. Address, size and lead go apart, here and below, as C gives them.
+    // Fills pages with zeros, the source and zeros; W^X memory sets their flags first, sparse memory doesn't look at the flag.
+    // Address, size and lead go apart, here and below, as C gives them.
     fn init_pages(
         memory: &mut Memory,
         storage: &mut Storage,
@@ -55,9 +56,36 @@ pub trait Layer {
         ensures value { (number_of result, seen storage.new memory.new) ≡ run does (inits address size flag lead source.now) (seen storage.old memory.old) }
         ensures same { SameSlices storage.old storage.new };
 
-    // Stores bytes in one page that is in a slot, if there are any and nothing keeps them off it; whether it did.
-    fn store_here(memory: Memory, storage: &mut Storage, address: u64, bytes: Bytes) -> bool
-        ensures value { Did result (run does (stores address (bytes_of bytes.entry)) (seen storage.old memory)) (seen storage.old memory) (seen storage.new memory) }
+    // Stores bytes: at once where they lie in one page that is in a slot and nothing keeps them off it, else page by page.
+    fn store(
+        memory: &mut Memory,
+        storage: &mut Storage,
+        address: u64,
+        bytes: Bytes,
+    ) -> Result<(), Refusal>
+        ensures value { (number_of result, seen storage.new memory.new) ≡ run does (stores address (bytes_of bytes.entry)) (seen storage.old memory.old) }
+        ensures same { SameSlices storage.old storage.new };
+
+    // Stores `size` bytes of one value.
+    fn store_byte(
+        memory: &mut Memory,
+        storage: &mut Storage,
+        address: u64,
+        size: u64,
+        value: u8,
+    ) -> Result<(), Refusal>
+        ensures value { (number_of result, seen storage.new memory.new) ≡ run does (stores address (filled size value)) (seen storage.old memory.old) }
+        ensures same { SameSlices storage.old storage.new };
+
+    // Stores the low bytes of a number.
+    fn store_number(
+        memory: &mut Memory,
+        storage: &mut Storage,
+        address: u64,
+        value: u64,
+        width: Width,
+    ) -> Result<(), Refusal>
+        ensures value { (number_of result, seen storage.new memory.new) ≡ run does (stores address (to_le (width_of width) value)) (seen storage.old memory.old) }
         ensures same { SameSlices storage.old storage.new };
 
     // Stores bytes, page by page.
@@ -90,7 +118,7 @@ pub trait Layer {
         Apart { outcome, memory }
     }
 
-    // Stores bytes. This body stands in `store_byte` and `store_number` too: one shared body is out of line and costs 5 ns a store.
+    // Stores bytes.
     fn store_bytes(
         memory: &mut Memory,
         storage: &mut Storage,
@@ -100,74 +128,7 @@ pub trait Layer {
         ensures value { (number_of result, seen storage.new memory.new) ≡ run does (stores address bytes.now) (seen storage.old memory.old) }
         ensures same { SameSlices storage.old storage.new }
     {
-        if Self::store_here(*memory, storage, address, Bytes::These(bytes)) {
-            return Ok(());
-        }
-        let apart = Self::store_apart(
-            storage.slots,
-            storage.flags,
-            storage.area,
-            *memory,
-            address,
-            Bytes::These(bytes),
-        );
-        *memory = apart.memory;
-        apart.outcome
-    }
-
-    // Stores `size` bytes of one value.
-    fn store_byte(
-        memory: &mut Memory,
-        storage: &mut Storage,
-        address: u64,
-        size: u64,
-        value: u8,
-    ) -> Result<(), Refusal>
-        ensures value { (number_of result, seen storage.new memory.new) ≡ run does (stores address (filled size value)) (seen storage.old memory.old) }
-        ensures same { SameSlices storage.old storage.new }
-    {
-        let bytes = Bytes::Filled(value, size as usize);
-        if Self::store_here(*memory, storage, address, bytes) {
-            return Ok(());
-        }
-        let apart = Self::store_apart(
-            storage.slots,
-            storage.flags,
-            storage.area,
-            *memory,
-            address,
-            bytes,
-        );
-        *memory = apart.memory;
-        apart.outcome
-    }
-
-    // Stores the low bytes of a number.
-    fn store_number(
-        memory: &mut Memory,
-        storage: &mut Storage,
-        address: u64,
-        value: u64,
-        width: Width,
-    ) -> Result<(), Refusal>
-        ensures value { (number_of result, seen storage.new memory.new) ≡ run does (stores address (to_le (width_of width) value)) (seen storage.old memory.old) }
-        ensures same { SameSlices storage.old storage.new }
-    {
-        let n = width.bytes();
-        let bytes = value.to_le_bytes();
-        if Self::store_here(*memory, storage, address, Bytes::These(&bytes[..n])) {
-            return Ok(());
-        }
-        let apart = Self::store_apart(
-            storage.slots,
-            storage.flags,
-            storage.area,
-            *memory,
-            address,
-            Bytes::These(&bytes[..n]),
-        );
-        *memory = apart.memory;
-        apart.outcome
+        Self::store(memory, storage, address, Bytes::These(bytes))
     }
 
     // Stores the low byte of a number. These four and the execute loads below keep the names of memory/mod.rs, which
@@ -243,6 +204,7 @@ pub trait Layer {
 }
 
 // Pages in slots, with no check of permission.
+#[derive(Clone, Copy)]
 pub struct Sparse;
 
 impl Layer for Sparse {
@@ -252,6 +214,7 @@ impl Layer for Sparse {
 
     ghost inits = { λ a size flags lead source. fill_page_data a size lead source };
 
+    #[inline(always)]
     fn execute_load(
         memory: Memory,
         lent: Lent,
@@ -273,6 +236,7 @@ impl Layer for Sparse {
         memory.fill_page_data(storage, source, address, size, lead)
     }
 
+    #[inline(always)]
     fn store_over(
         memory: &mut Memory,
         storage: &mut Storage,
@@ -285,8 +249,61 @@ impl Layer for Sparse {
         memory.store_pages(storage, bytes, address / PAGE, (address % PAGE) as usize)
     }
 
-    fn store_here(memory: Memory, storage: &mut Storage, address: u64, bytes: Bytes) -> bool {
-        memory.store_here(storage, bytes, address, 0)
+    // This and the two below stand in `WXorX` too: a hint to inline doesn't reach the calls of a provided method, and out of line a
+    // store takes 5 ns more.
+    #[inline(always)]
+    fn store(
+        memory: &mut Memory,
+        storage: &mut Storage,
+        address: u64,
+        bytes: Bytes,
+    ) -> Result<(), Refusal> {
+        if memory.store_here(storage, bytes, address, 0) {
+            return Ok(());
+        }
+        let apart = Self::store_apart(
+            storage.slots,
+            storage.flags,
+            storage.area,
+            *memory,
+            address,
+            bytes,
+        );
+        *memory = apart.memory;
+        apart.outcome
+    }
+
+    // Lengths first, so that they are looked at once, and then page by page at once: by way of `store_apart` a store over a page's end
+    // takes 1.5 times as long.
+    #[inline(always)]
+    fn store_byte(
+        memory: &mut Memory,
+        storage: &mut Storage,
+        address: u64,
+        size: u64,
+        value: u8,
+    ) -> Result<(), Refusal> {
+        if !storage.fits(*memory) {
+            return Err(Refusal::BadStorage);
+        }
+        let equal = Bytes::Filled(value, size as usize);
+        if memory.store_here(storage, equal, address, 0) {
+            return Ok(());
+        }
+        Self::store_over(memory, storage, address, equal)
+    }
+
+    #[inline(always)]
+    fn store_number(
+        memory: &mut Memory,
+        storage: &mut Storage,
+        address: u64,
+        value: u64,
+        width: Width,
+    ) -> Result<(), Refusal> {
+        let n = width.bytes();
+        let bytes = value.to_le_bytes();
+        Self::store(memory, storage, address, Bytes::These(&bytes[..n]))
     }
 }
 
@@ -335,6 +352,7 @@ fn check_bounds(bound: u64, address: u64, size: u64, lead: u64) -> Result<(), Re
 }
 
 // The same with the W^X check: stores need pages that are not executable.
+#[derive(Clone, Copy)]
 pub struct WXorX;
 
 impl Layer for WXorX {
@@ -397,7 +415,56 @@ impl Layer for WXorX {
         memory.store_pages(storage, bytes, address / PAGE, (address % PAGE) as usize)
     }
 
-    fn store_here(memory: Memory, storage: &mut Storage, address: u64, bytes: Bytes) -> bool {
-        memory.store_here(storage, bytes, address, FLAG_WXORX_BIT)
+    #[inline(always)]
+    fn store(
+        memory: &mut Memory,
+        storage: &mut Storage,
+        address: u64,
+        bytes: Bytes,
+    ) -> Result<(), Refusal> {
+        if memory.store_here(storage, bytes, address, FLAG_WXORX_BIT) {
+            return Ok(());
+        }
+        let apart = Self::store_apart(
+            storage.slots,
+            storage.flags,
+            storage.area,
+            *memory,
+            address,
+            bytes,
+        );
+        *memory = apart.memory;
+        apart.outcome
+    }
+
+    #[inline(always)]
+    fn store_byte(
+        memory: &mut Memory,
+        storage: &mut Storage,
+        address: u64,
+        size: u64,
+        value: u8,
+    ) -> Result<(), Refusal> {
+        if !storage.fits(*memory) {
+            return Err(Refusal::BadStorage);
+        }
+        let equal = Bytes::Filled(value, size as usize);
+        if memory.store_here(storage, equal, address, FLAG_WXORX_BIT) {
+            return Ok(());
+        }
+        Self::store_over(memory, storage, address, equal)
+    }
+
+    #[inline(always)]
+    fn store_number(
+        memory: &mut Memory,
+        storage: &mut Storage,
+        address: u64,
+        value: u64,
+        width: Width,
+    ) -> Result<(), Refusal> {
+        let n = width.bytes();
+        let bytes = value.to_le_bytes();
+        Self::store(memory, storage, address, Bytes::These(&bytes[..n]))
     }
 }

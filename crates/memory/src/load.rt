@@ -74,7 +74,8 @@ impl<'a> Lent<'a> {
 }
 
 impl Memory {
-    // The number in n bytes from an address on, of one page or two.
+    // The number in n bytes from an address on, of one page or two. Out of line, so that what most loads are stays small.
+    #[inline(never)]
     pub(crate) fn load_over(self, lent: Lent, address: u64, n: usize) -> Result<u64, Refusal>
         requires fitting { FitsRead lent self }
         requires width { (0 < n) × (n ≤ 8) }
@@ -91,10 +92,10 @@ impl Memory {
             return Ok(words::read_le(lent.area, slot * RISCV_PAGESIZE + at, n));
         }
         meet(lent.slots, self.used, page + 1)?;
-        // The bytes lie in two pages, and are put together first.
+        // The bytes lie in two pages, and are put together first, with zeros behind them.
         let mut bytes = [0u8; 8];
         lent.load_pages(&mut bytes, address, n);
-        Ok(words::read_le(&bytes, 0, n))
+        Ok(u64::from_le_bytes(bytes))
     }
 
     // The pages from first to last can be read.
@@ -190,11 +191,11 @@ impl Memory {
         ensures { (value_of result, read_in lent.entry self) ≡ run does (load_wide (width_of width) address) (read_in lent.entry self) }
     {
         let n = width.bytes();
-        if let Some(value) = self.load_here(lent, address, n) {
-            return Ok(value);
-        }
         if !lent.fits(self) {
             return Err(Refusal::BadStorage);
+        }
+        if let Some(value) = self.load_here(lent, address, n) {
+            return Ok(value);
         }
         self.load_over(lent, address, n)
     }

@@ -19,7 +19,9 @@ use outcome::Refusal;
 fn clear_slots(slots: &mut [u16])
     ensures { slots.new ≡ filled (length slots.old) absent }
 {
-    slots.fill(INVALID_PAGE_INDEX as u16);
+    for slot in slots {
+        *slot = INVALID_PAGE_INDEX as u16;
+    }
 }
 
 impl Memory {
@@ -127,7 +129,7 @@ impl Memory {
         self.reservation
     }
 
-    // Sets the reservation.
+    // The memory with another reservation.
     pub fn set_lr(mut self, value: u64) -> Self
         ensures { result ≡ reserved self value }
     {

@@ -6,6 +6,8 @@ use Rattle.outcome.specs.declared.Refusal.TheVariants.{BadRecordFile}
 use Rattle.recordfile.specs.Words.{record_bytes}
 use Rattle.recordfile.specs.Records.{count_in, records_in}
 use Rattle.recordfile.specs.declared.Record.{Record}
+use Rattle.recordfile.specs.declared.form.Form as code
+use Rattle.recordfile.specs.declared.form.Form.TheVariants as variants
 use Rattle.recordfile.specs.declared.Record.TheVariants.{State, Registers, Source, Dirty, Bad}
 
 -- "All else is 11.": not in the form; or in it, beside a page file of so many pages
@@ -87,3 +89,9 @@ in_form file size = beside (judged file) size
 abbrev pub capped : Form → Result (Option ℕ) Refusal
 capped malformed = Err BadRecordFile
 capped (needs pages) = Ok (cond (ltb pages (2 ^ 64)) (Some pages) None)
+
+-- the same in three cases, of which none is a refusal
+abbrev pub form_of : Result (Option ℕ) Refusal → code.Form
+form_of (Ok (Some pages)) = variants.Needs pages
+form_of (Ok None) = variants.Beyond
+form_of (Err _) = variants.Malformed

@@ -1,7 +1,7 @@
 // The form of a whole record file, with its page file.
 ghost use Rattle.std.specs.Prelude.{◌≡◌, cond};
 ghost use Rattle.outcome.specs.Numbers.{number_of};
-ghost use Rattle.recordfile.specs.Form.{malformed, registers_need, runs_need, judged, capped, in_form, register_records};
+ghost use Rattle.recordfile.specs.Form.{malformed, registers_need, runs_need, judged, capped, form_of, in_form, register_records};
 ghost use Rattle.recordfile.specs.Reader.{left};
 
 use super::reader::Reader;
@@ -10,6 +10,14 @@ use super::{
 };
 use bits::RISCV_PAGESIZE;
 use outcome::Refusal;
+
+// What a record file needs beside it: a page file of so many pages; one of more than 2^64-1; or it is not in the form.
+#[derive(Clone, Copy)]
+pub enum Form {
+    Needs(u64),
+    Beyond,
+    Malformed,
+}
 
 // Whether the register records stand next, in order.
 fn registers_stand(records: &mut Reader) -> bool
@@ -59,7 +67,7 @@ fn runs_need(records: Reader) -> Result<Option<u64>, Refusal>
 }
 
 // The pages of the page file that a record file needs beside it; where they pass 2^64-1, `None`.
-pub fn judge(file: &[u8]) -> Result<Option<u64>, Refusal>
+pub fn needed_pages(file: &[u8]) -> Result<Option<u64>, Refusal>
     ensures { result ≡ capped (judged file.now) }
 {
     if file.len() % RECORD_BYTES != 0 {
@@ -86,11 +94,22 @@ pub fn judge(file: &[u8]) -> Result<Option<u64>, Refusal>
     }
 }
 
+// What a record file needs beside it, or that it is not in the form.
+pub fn judge(file: &[u8]) -> Form
+    ensures { result ≡ form_of (capped (judged file.now)) }
+{
+    match needed_pages(file) {
+        Ok(Some(pages)) => Form::Needs(pages),
+        Ok(None) => Form::Beyond,
+        Err(_) => Form::Malformed,
+    }
+}
+
 // Whether a record file is in the form, beside a page file of so many bytes.
 pub fn in_form(file: &[u8], pages: usize) -> Result<(), Refusal>
     ensures { number_of result ≡ in_form file.now pages }
 {
-    let needed = judge(file)?;
+    let needed = needed_pages(file)?;
     if pages % RISCV_PAGESIZE != 0 {
         return Err(Refusal::BadRecordFile);
     }

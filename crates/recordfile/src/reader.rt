@@ -1,8 +1,8 @@
 // A reader that holds a record file and its position: the file's records one by one, as an iterator.
 ghost use Rattle.std.specs.Prelude.{◌≡◌};
-ghost use Rattle.std.specs.Iterator.{YieldsFirst, item_count};
+ghost use Rattle.std.specs.Iterator.{item_count};
 ghost use Rattle.recordfile.specs.Records.{record_at};
-ghost use Rattle.recordfile.specs.Reader.{next_to, left};
+ghost use Rattle.recordfile.specs.Reader.{next_to, left, TakesNext};
 
 use super::{RECORD_BYTES, Record};
 
@@ -51,7 +51,7 @@ impl<'a> Reader<'a> {
 impl<'a> Iterator for Reader<'a> {
     type Item = Record;
 
-    ghost next_gives = { YieldsFirst left };
+    ghost next_gives = { TakesNext };
 
     ghost remaining = { item_count left };
 

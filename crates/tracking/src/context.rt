@@ -15,7 +15,7 @@ use super::records::{Tracking, write_record};
 use super::sources::{Sources, load_data};
 use super::storage::{TrackedFlags, TrackedStorage};
 use memory::layer::{Layer, WXorX};
-use memory::storage::Storage;
+use memory::storage::{Bytes, Storage};
 use memory::{FLAG_DIRTY, Memory, PAGE};
 use outcome::Refusal;
 
@@ -82,7 +82,7 @@ fn store_bytes_apart(
     ensures { (number_of result, state_of slots.new flags.new area.new memory.new) ≡ run of_memory.does (wxorx.store_bytes address bytes.now) (state_of slots.old flags.old area.old memory.old) }
 {
     let mut storage = Storage { slots, flags, area };
-    WXorX::store_bytes(memory, &mut storage, address, bytes)
+    WXorX::store(memory, &mut storage, address, Bytes::These(bytes))
 }
 
 // Tracks pages.

@@ -5,6 +5,7 @@ use native.Mathlib.Nat.{pow-succ', pow-le-pow_right}
 use native.Mathlib.Decide.{dec_le}
 use lib.Seq.{take-take, drop-drop}
 use Rattle.std.proofs.lemmas.List.{drop_all}
+use Rattle.std.specs.Prelude.{slice_index}
 use Rattle.std.specs.Int.{w64, byte_at, bytes_low_first, to_le_bytes, from_le_bytes}
 use borrow.Rule.Slice.PartMut.{put_mid}
 use Rattle.bits.specs.Rounding.{page_size}
@@ -79,6 +80,21 @@ pub from_le-front : (n : ℕ) (q : List ℕ) → n ≤ 8 → length q ≡ n → 
 from_le-front n q h e =
     from_le-std (q ++ drop n (replicate 8 0)) (simp (length-append, length-drop) (omega arith))
     ∙ from_le-append q (drop n (replicate 8 0)) (from_le-zeros n 8)
+
+-- the same, byte by byte
+pub spelled : (n : ℕ) (q bytes : List ℕ) → n ≤ 8 → length q ≡ n → bytes ≡ q ++ drop n (replicate 8 0)
+    → from_le_bytes w64 bytes
+    ≡ slice_index bytes 0
+    + 256
+    * (slice_index bytes 1
+    + 256
+    * (slice_index bytes 2
+    + 256
+    * (slice_index bytes 3 + 256 * (slice_index bytes 4 + 256 * (slice_index bytes 5 + 256 * (slice_index bytes 6 + 256 * slice_index bytes 7))))))
+spelled n q bytes h e is =
+    let l : length bytes ≡ 8 = rw is (simp (length-append, length-drop) (omega arith)) in
+    let p = from_le-drop bytes in
+    omega (arith, from_le-std bytes l, p 0, p 1, p 2, p 3, p 4, p 5, p 6, p 7, none bytes 8 (omega arith))
 
 -- bytes make a number that they are enough for
 pub from_le-bound : (l : List ℕ) → Small l → from_le l < 256 ^ length l

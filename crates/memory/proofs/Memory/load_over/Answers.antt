@@ -22,4 +22,4 @@ pub load_pages-requires-clause-n_bound : goal.load_pages-requires-clause-n_bound
 load_pages-requires-clause-n_bound c = let k = c.in_ok-meet-2.ensures in load_end _ _ _ _ _ _ 0 true c.requires.fitting (search rules) k refl refl
 
 pub returns : goal.returns
-returns c = let k = c.in_ok-meet.ensures in let q = c.in_ok-meet-2.ensures in load-two _ _ _ 0 true (search rules) (search rules) k refl refl (search rules) 0 true q refl refl _ _ _ c.load_pages.ensures (search rules) (search rules)
+returns c = let k = c.in_ok-meet.ensures in let q = c.in_ok-meet-2.ensures in load-two _ _ _ 0 true (search rules) (search rules) k refl refl (search rules) 0 true q refl refl _ _ c.load_pages.ensures c.from_le_bytes.ensures

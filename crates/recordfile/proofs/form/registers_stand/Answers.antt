@@ -4,7 +4,7 @@ use Rattle.recordfile.proofs.Judging.{registers-none, registers-other, registers
 use Rattle.recordfile.proofs.form.registers_stand.Goals as goal
 
 pub returns-in_default : goal.returns-in_default
-returns-in_default c = registers-none _ _ _ c.loop-i.invariant c.loop-i-test.true (rw c.in_default.is at c.next.ensures.steps).0
+returns-in_default c = registers-none _ _ _ c.loop-i.invariant c.loop-i-test.true (rw c.in_default.is at c.next.ensures.steps).0.0
 
 pub returns-in_default-entry : goal.returns-in_default-entry
 returns-in_default-entry c = search (rules, registers-other, c.in-Some.ensures)

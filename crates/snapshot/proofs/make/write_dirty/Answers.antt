@@ -1,6 +1,6 @@
 -- The runs that are left, from their record and their page on, make both files.
 use Rattle.std.proofs.Common.{rules, arith, ◌∙◌, ◌≡◌, ◌+◌, inl, inr}
-use Rattle.snapshot.proofs.Files.{dirty_first, dirty_in_slots, dirty_some, dirty_met, dirty_file, dirty_pages, dirty_next, dirty_none, pages_none, dirty_done, pages_done}
+use Rattle.snapshot.proofs.Files.{dirty_first, dirty_in_slots, dirty_some, dirty_met, dirty_pages, dirty_next, dirty_none, pages_none, dirty_done, pages_done}
 use Rattle.snapshot.proofs.make.write_dirty.Goals as goal
 
 pub loop-at-init : goal.loop-at-init

@@ -1,7 +1,7 @@
 -- The size, the count, the first record, the register records, then the runs.
 use Rattle.std.proofs.Common.{rules}
 use Rattle.recordfile.proofs.WholeFile.{left-all, judged-cut, judged-few, judged-many, judged-none, judged-other, judged-runs, judged-registers}
-use Rattle.recordfile.proofs.form.judge.Goals as goal
+use Rattle.recordfile.proofs.form.needed_pages.Goals as goal
 
 pub returns-then-file-ne0 : goal.returns-then-file-ne0
 returns-then-file-ne0 c = search (rules, judged-cut)

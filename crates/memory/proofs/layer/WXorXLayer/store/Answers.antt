@@ -1,0 +1,9 @@
+-- It was the whole call, or nothing, and then the call goes on.
+use Rattle.memory.proofs.ShortPath.{did_wxorx, did_on}
+use Rattle.memory.proofs.layer.WXorXLayer.store.Goals as goal
+
+pub returns-then-store_here-clause-value : goal.returns-then-store_here-clause-value
+returns-then-store_here-clause-value c = (did_wxorx _ _ _ _ _ c.store_here.ensures.value).yes c.if-store_here.true
+
+pub returns-clause-value : goal.returns-clause-value
+returns-clause-value c = did_on _ _ _ _ _ (did_wxorx _ _ _ _ _ c.store_here.ensures.value) c.if-store_here.false c.store_apart-apart.ensures

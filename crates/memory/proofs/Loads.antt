@@ -6,7 +6,7 @@ use Rattle.words.specs.Bytes.{patch, written, filled}
 use Rattle.words.specs.LittleEndian.{from_le, Read}
 use Rattle.std.specs.Int.{w64, from_le_bytes}
 use Rattle.words.proofs.Std.{from_le-front}
-use Rattle.words.proofs.Written.{written-fits, written_none}
+use Rattle.words.proofs.Written.{part-written, written-fits, written_none}
 use Rattle.program.specs.Program.{ret, ask, run, perform, after, and_then, each}
 use Rattle.program.proofs.Laws.{after-done, after_stop, then_done, then_stop, each_none, each_turn, each-stop}
 use Rattle.memory.specs.declared.Memory.{Memory}
@@ -148,9 +148,19 @@ module _ (s : State) (a n : ℕ) where
         unfolding load
         load-second t = after_stop does no_value (meets a n) _ s j s b (meeting-stop next j b q o (omega arith) s refl refl t) o t
 
-        pub load-two : b ≡ true → (bytes : List ℕ) (v : ℕ) → bytes ≡ written (replicate 8 0) 0 (span (byte_at s) a n)
+        pub load-two : b ≡ true → (front bytes : List ℕ) (v : ℕ) → bytes ≡ written front 0 (span (byte_at s) a n) → n ≤ length front
+            → Read bytes 0 (min n 8) v → (valued v, s) ≡ run does (load n a) s
+        load-two t front bytes v w l r =
+            let x : min n 8 ≡ n = omega arith in
+            let y : length (span (byte_at s) a n) ≡ n = length-span (byte_at s) n a in
+            let p = rw y at (part-written front (span (byte_at s) a n) 0 (omega arith)) in
+            let g = meeting_more next j b q o (omega arith) t in
+            loaded v (meeting-done g s refl refl (omega arith)) (r.value ∙ rw (x, w) (ap from_le p))
+
+        -- the same, of eight bytes that were zeros
+        pub load-zeros : b ≡ true → (bytes : List ℕ) (v : ℕ) → bytes ≡ written (replicate 8 0) 0 (span (byte_at s) a n)
             → v ≡ from_le_bytes w64 bytes → (valued v, s) ≡ run does (load n a) s
-        load-two t bytes v w r =
+        load-zeros t bytes v w r =
             let l : List ℕ = span (byte_at s) a n in
             let y : length l ≡ n = length-span (byte_at s) n a in
             let e : 0 + length l ≡ n = omega (arith, y) in

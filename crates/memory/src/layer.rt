@@ -464,7 +464,7 @@ impl Layer for WXorX {
         width: Width,
     ) -> Result<(), Refusal> {
         let n = width.bytes();
-        let bytes = value.to_le_bytes();
-        Self::store(memory, storage, address, Bytes::These(&bytes[..n]))
+        let low = value.to_le_bytes();
+        Self::store(memory, storage, address, Bytes::These(&low[..n]))
     }
 }

@@ -7,5 +7,5 @@ use Rattle.words.proofs.write_le.Goals as goal
 pub returns : goal.returns
 unfolding filled
 returns c =
-    number-written _ _ _ _ _ _ _ _ _ _ _ (search rules) c.min-from.ensures (search rules) (search rules) (rw c.to_le_bytes-bytes.ensures refl)
+    number-written _ _ _ _ _ _ _ _ _ _ _ (search rules) c.min-from.ensures (search rules) (search rules) (search rules)
     c.copy_from_slice.ensures.after refl (search rules)

@@ -1,7 +1,7 @@
 -- One page or two: each refuses or is met, and then the number in the bytes is read.
 use Rattle.std.proofs.Common.{rules, refl, true, false}
 use Rattle.memory.proofs.Refused.{refused, passed_on}
-use Rattle.memory.proofs.Loads.{load-stop, load-absent, load-there, load-second, load_end, load-two}
+use Rattle.memory.proofs.Loads.{load-stop, load-absent, load-there, load-second, load_end, load-zeros}
 use Rattle.memory.proofs.Memory.load_over.Goals as goal
 
 pub returns-in_err-meet : goal.returns-in_err-meet
@@ -22,4 +22,4 @@ pub load_pages-requires-clause-n_bound : goal.load_pages-requires-clause-n_bound
 load_pages-requires-clause-n_bound c = let k = c.in_ok-meet-2.ensures in load_end _ _ _ _ _ _ 0 true c.requires.fitting (search rules) k refl refl
 
 pub returns : goal.returns
-returns c = let k = c.in_ok-meet.ensures in let q = c.in_ok-meet-2.ensures in load-two _ _ _ 0 true (search rules) (search rules) k refl refl (search rules) 0 true q refl refl _ _ c.load_pages.ensures c.from_le_bytes.ensures
+returns c = let k = c.in_ok-meet.ensures in let q = c.in_ok-meet-2.ensures in load-zeros _ _ _ 0 true (search rules) (search rules) k refl refl (search rules) 0 true q refl refl _ _ c.load_pages.ensures c.from_le_bytes.ensures

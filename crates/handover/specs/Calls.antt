@@ -21,8 +21,9 @@ use Rattle.snapshot.specs.MakeSnapshot.{Made, make_snapshot}
 use Rattle.snapshot.specs.Resume as snapshot
 
 -- every public call on a machine but fresh and clear_flag, and those that are lent no machine. A call on the machine's memory is
--- made on its field, which `memory` hands out and `with_memory` takes back; storage_fits, records_fit and lengths_fit ask lengths alone, the calls on records and
--- files of `recordfile` and `listing` are given no machine, and the leaves meet, entry_at and untrack_all are one operation each
+-- made on its field, which `memory` hands out and `with_memory` takes back; storage_fits, records_fit and lengths_fit ask lengths
+-- alone, the calls on records and files of `recordfile` and `listing` are given no machine, and the leaves meet, entry_at and
+-- untrack_all are one operation each
 pub data Named : Type 0 where
   -- an address; an address and a size
   round_page_up_call : ℕ → Named

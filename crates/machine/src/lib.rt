@@ -2,7 +2,8 @@
 //
 // Document 01, the machine's row of "What is ported". A machine goes in by value, as `self` or `mut self`, and comes back whole, on
 // a refusal too; nothing of it is held elsewhere. Its memory is W^X over sparse memory: a call on it is lent the field,
-// which `memory()` hands out and `with_memory` takes back, and what is lent beside. A fresh machine also has every page's record untracked.
+// which `memory()` hands out and `with_memory` takes back, and what is lent beside. A fresh machine also has every page's record
+// untracked.
 //
 // What each method answers and leaves is a definition of specs/Numbers.antt; what `fresh` does is one of specs/Fresh.antt.
 #![tactic(auto)]

@@ -17,10 +17,9 @@ next_to at = cond (ltb at last_position) (at + 1) at
 abbrev pub left : Reader → List Record
 left r = records_from r.file.now r.at (count_in r.file.now - r.at)
 
--- its position past the record that is next; past the last, where it is
-abbrev pub passed : Reader → ℕ
-passed r = cond (ltb r.at (count_in r.file.now)) (r.at + 1) r.at
-
--- it gave the first of the records that were left, or none where none was, and is the same file's past that record
+-- it gave the first of the records that were left, or none where none was, and is the same file's, past that record, or where it was
 abbrev pub TakesNext : Reader → Option Record → Reader → Type 0
-TakesNext r given after = YieldsFirst left r given after × (after.file ≡ r.file) × (after.at ≡ passed r)
+TakesNext r given after =
+    YieldsFirst left r given after
+    × (after.file ≡ r.file)
+    × (after.at ≡ cond (ltb r.at (count_in r.file.now)) (r.at + 1) r.at)

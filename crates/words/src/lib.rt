@@ -1,8 +1,8 @@
 // Bytes in slices: little-endian numbers of up to eight bytes, read and written, a copy of at most a page, and a fill.
 //
 //   read_le, write_le   the number in n bytes; callers pass 1, 2, 4 or 8, and 8 to write_le. Document 01: "All little-endian."
-//   copy                at most a page, compiled to one memmove
-//   fill                every byte of a slice, compiled to memset
+//   copy                at most a page
+//   fill                every byte of a slice
 //
 // copy is a call of std, fill a loop: std's `fill` sets the last byte apart, where AddressSanitizer doesn't see it. Their names are
 // those of document 01's leaves, which docs/PROMISES.md has.
